@@ -1,0 +1,2 @@
+-- What Mullirim's flash crate promises.
+pub mod Flash
