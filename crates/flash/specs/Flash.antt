@@ -1,17 +1,69 @@
-use Prim.Native.Nat.{ℕ, _+_, _*_, _^_}
+-- Flash as a list of bytes, and what erasing, programming and searching leave of it or find in it.
+use Prim.Native.Nat.{ℕ, _+_, _*_, _^_, _≤_, _<_}
 use mathlib.Core.Bool.{Bool, cond}
-use lib.Dec.{ltb}
+use mathlib.Core.List.{List, [], _∷_, _++_}
+use lib.Dec.{ltb, eqb}
+use lib.ListN.{length, take, drop, replicate, set}
 use Rattle.flash.specs.declared.Reach.{Reach}
-use Rattle.flash.specs.declared.Reach.the-variants.{At, Past}
+use Rattle.flash.specs.declared.Found.{Found}
 
 -- the bytes of a block
 abbrev pub blockSize : ℕ
 blockSize = 1024
 
+-- what an erased byte holds
+abbrev pub erasedByte : ℕ
+erasedByte = 255
+
 -- the address of a block's first byte
 abbrev pub startOf : ℕ → ℕ
 startOf block = block * blockSize
 
--- the checked conversion: an address has 32 bits
+-- the checked conversion: a block whose start has a 32-bit address is there, any other is out of reach
 abbrev pub reachOf : ℕ → Reach
-reachOf block = cond (ltb (startOf block) (2 ^ 32)) (At (record { 0 = startOf block })) Past
+reachOf block = cond (ltb (startOf block) (2 ^ 32)) (Reach.At (record { 0 = startOf block })) Reach.Past
+
+-- n bytes from address at on lie in flash, and each has a 32-bit address
+pub record Within (flash : List ℕ) (at n : ℕ) : Type 0 where
+  pub inside : at + n ≤ length flash
+  pub addressed : at + n < 2 ^ 32
+
+-- the n bytes from address at on
+unfoldable pub range : List ℕ → ℕ → ℕ → List ℕ
+range flash at n = take n (drop at flash)
+
+-- flash with other bytes from address at on
+unfoldable pub spliced : List ℕ → ℕ → List ℕ → List ℕ
+spliced flash at bytes = take at flash ++ bytes ++ drop (at + length bytes) flash
+
+-- n erased bytes
+unfoldable pub blank : ℕ → List ℕ
+blank n = replicate n erasedByte
+
+-- flash with count blocks erased, from block first on
+unfoldable pub erased : List ℕ → ℕ → ℕ → List ℕ
+erased flash first count = spliced flash (startOf first) (blank (startOf count))
+
+-- the first of some bytes that is not erased, where the first of them has address at
+unfoldable pub firstIn : ℕ → List ℕ → Found
+firstIn at [] = Found.Nothing
+firstIn at (b ∷ bs) = cond (eqb b erasedByte) (firstIn (at + 1) bs) (Found.At (record { 0 = at }))
+
+-- the first byte that is not erased among the n bytes from block first on
+unfoldable pub searched : List ℕ → ℕ → ℕ → Found
+searched flash first n = firstIn (startOf first) (range flash (startOf first) n)
+
+-- one store of a byte
+pub record Store : Type 0 where
+  pub at : ℕ
+  pub byte : ℕ
+
+-- flash after the stores of a list, the first of them first
+unfoldable pub carried : List ℕ → List Store → List ℕ
+carried flash [] = flash
+carried flash (s ∷ ss) = carried (set flash (s .at) (s .byte)) ss
+
+-- the stores that put bytes to address at and upward
+unfoldable pub stores : ℕ → List ℕ → List Store
+stores at [] = []
+stores at (b ∷ bs) = record { at = at; byte = b } ∷ stores (at + 1) bs

@@ -1,9 +1,15 @@
-// A flash of blocks, lent as a slice of bytes.
+// A flash of blocks, lent as a slice of bytes: where a block begins, the one store, erase, program, and the search for a byte
+// that is not erased. How many blocks there are is the caller's to know; a range has to lie in the slice.
+ghost use Prim.Native.Nat.{_*_, _<_};
 ghost use mathlib.Core.Path.{_≡_};
-ghost use Rattle.flash.specs.Flash.{reachOf};
+ghost use lib.ListN.{length, set};
+ghost use Rattle.flash.specs.Flash.{reachOf, startOf, Within, blank, spliced, erased, range, firstIn, searched};
 
 // The bytes of a block.
 pub const BLOCK: u32 = 1024;
+
+// What a byte of flash holds once it is erased.
+pub const ERASED: u8 = 0xFF;
 
 // A block's number, counted from the start of flash.
 #[repr(C)]
@@ -19,8 +25,14 @@ pub enum Reach {
     Past,
 }
 
+// What a search for a byte that is not erased comes back with.
+pub enum Found {
+    At(Addr),
+    Nothing,
+}
+
 impl Block {
-    // The only way from a block number to an address: 4,194,304 blocks are 4 GiB, so the product can't wrap.
+    // The one way from a block number to an address: 4,194,304 blocks are 4 GiB, so the product can't wrap.
     pub fn address(self) -> Reach
         ensures { λ r. ⌜ r ≡ reachOf (self .0) ⌝ }
     {
@@ -30,5 +42,84 @@ impl Block {
         } else {
             Reach::Past
         }
+    }
+}
+
+// Every byte of flash that changes, changes here.
+fn store(flash: &mut [u8], at: Addr, byte: u8)
+    requires { ⌜ at .0 < length (now flash) ⌝ }
+    ensures { λ _. ⌜ now (flash .exit) ≡ set (now (flash .entry)) (at .0) byte ⌝ }
+{
+    let i = at.0 as usize;
+    flash[i] = byte;
+}
+
+// Puts the bytes to their places from `at` upward.
+pub fn program(flash: &mut [u8], at: Addr, bytes: &[u8])
+    requires { ⌜ Within (now flash) (at .0) (length (now bytes)) ⌝ }
+    ensures { λ _. ⌜ now (flash .exit) ≡ spliced (now (flash .entry)) (at .0) (now (bytes .entry)) ⌝ }
+{
+    let from = at.0;
+    let mut i = 0;
+    while i < bytes.len() {
+        store(flash, Addr(from + i as u32), bytes[i]);
+        i += 1;
+    }
+}
+
+// Erases n bytes from `at` upward.
+fn wipe(flash: &mut [u8], at: Addr, n: u32)
+    requires { ⌜ Within (now flash) (at .0) n ⌝ }
+    ensures { λ _. ⌜ now (flash .exit) ≡ spliced (now (flash .entry)) (at .0) (blank n) ⌝ }
+{
+    let from = at.0;
+    for i in 0..n {
+        store(flash, Addr(from + i), ERASED);
+    }
+}
+
+// Erases `count` blocks from block `first` on.
+pub fn erase(flash: &mut [u8], first: Block, count: u32)
+    requires { ⌜ Within (now flash) (startOf (first .0)) (startOf count) ⌝ }
+    ensures { λ _. ⌜ now (flash .exit) ≡ erased (now (flash .entry)) (first .0) count ⌝ }
+{
+    match first.address() {
+        Reach::At(at) => wipe(flash, at, count * BLOCK),
+        Reach::Past => {}
+    }
+}
+
+// The walk over blocks and the walk over a block's bytes are left together, at the first byte that is not erased.
+fn search_from(flash: &[u8], from: Addr, n: u32) -> Found
+    requires { ⌜ Within (now flash) (from .0) n ⌝ }
+    ensures { λ r. ⌜ r ≡ firstIn (from .0) (range (now (flash .entry)) (from .0) n) ⌝ }
+{
+    let mut at = from.0;
+    let end = at + n;
+    let mut found = Found::Nothing;
+    'search: while at < end {
+        let mut stop = end;
+        if BLOCK < end - at {
+            stop = at + BLOCK;
+        }
+        while at < stop {
+            if flash[at as usize] != ERASED {
+                found = Found::At(Addr(at));
+                break 'search;
+            }
+            at += 1;
+        }
+    }
+    found
+}
+
+// The first byte that is not erased among the n bytes from block `first` on.
+pub fn search(flash: &[u8], first: Block, n: u32) -> Found
+    requires { ⌜ Within (now flash) (startOf (first .0)) n ⌝ }
+    ensures { λ r. ⌜ r ≡ searched (now (flash .entry)) (first .0) n ⌝ }
+{
+    match first.address() {
+        Reach::At(at) => search_from(flash, at, n),
+        Reach::Past => Found::Nothing,
     }
 }

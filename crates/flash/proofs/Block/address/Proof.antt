@@ -1,21 +1,17 @@
+-- The bound of the test is 2 ^ 32 / 1,024. Assumes nothing.
 use borrow.Author.Tests.{lt-ltb, le-ltb}
 use native.Mathlib.Omega.{arith}
 use Prim.Native.Nat.{_*_}
 use borrow.Author.Needs.{needs}
 use Rattle.flash.proofs.Block.address.Statement.{statement}
 use Rattle.flash.proofs.Block.address.Tie as tie
-use Rattle.flash.proofs.Block.address.Reads as reads
-use Rattle.flash.proofs.Block.address.Lts as lts
 
--- src/lib.rt:29:28
 mul-t5 : tie.Need-mul-t5
 mul-t5 c = search needs
 
--- src/lib.rt:24:5
 returns : tie.Need-returns
 returns c = rw (lt-ltb (c .before .args .self .0 * 1024) 4294967296 (omega arith))
 
--- src/lib.rt:24:5
 returns-2 : tie.Need-returns-2
 returns-2 c = rw (le-ltb (c .before .args .self .0 * 1024) 4294967296 (omega arith))
 

@@ -1,0 +1,107 @@
+-- Both loops keep that what is left of the range holds the answer (Unerased); the label is left at the first byte that is not erased. Assumes nothing.
+use Prim.Native.Nat.{_+_, _-_, _≤_, _<_}
+use mathlib.Core.Path.{_≡_, refl, _∙_}
+use mathlib.Core.Logic.{⊎-elim}
+use native.Mathlib.Omega.{arith}
+use Rattle.flash.specs.declared.Found.{Found}
+use Rattle.flash.proofs.Unerased.{Ahead, ahead-from, ahead-one, ahead-found, ahead-none}
+use Rattle.flash.proofs.search_from.Statement.{statement}
+use Rattle.flash.proofs.search_from.Tie as tie
+
+abbrev Inv-loop : tie.InvT-loop
+Inv-loop flash n at₀ end found₀ stop at found = (found ≡ Found.Nothing) × (at₀ < stop) × (at ≤ stop) × (stop ≤ end) × Ahead flash (end - n) n at
+
+abbrev μ-loop : tie.MeasureT-loop
+μ-loop flash n at₀ end found₀ stop at found = stop - at
+
+abbrev Inv-search : tie.InvT-search
+Inv-search flash n at₀ end found₀ at found = (found ≡ Found.Nothing) × Ahead flash (end - n) n at
+
+abbrev μ-search : tie.MeasureT-search
+μ-search flash n at₀ end found₀ at found = end - at
+
+add-end : tie.Need-add-end Inv-loop μ-loop Inv-search μ-search
+add-end c = omega arith
+
+search-holds : tie.Need-search-holds Inv-loop μ-loop Inv-search μ-search
+search-holds c = (refl, ahead-from _ _ _ _ (omega arith))
+
+sub-if1 : tie.Need-sub-if1 Inv-loop μ-loop Inv-search μ-search
+sub-if1 c = omega arith
+
+add-stop : tie.Need-add-stop Inv-loop μ-loop Inv-search μ-search
+add-stop c = omega arith
+
+loop-holds : tie.Need-loop-holds Inv-loop μ-loop Inv-search μ-search
+loop-holds c =
+    let a = c .before .before .search .inv in (
+      a .0,
+      ⊎-elim (λ w. omega arith) (λ w. omega arith) (c .if1 .came),
+      ⊎-elim (λ w. omega arith) (λ w. omega arith) (c .if1 .came),
+      ⊎-elim (λ w. omega arith) (λ w. omega arith) (c .if1 .came),
+      a .1,
+    )
+
+search-less : tie.Need-search-less Inv-loop μ-loop Inv-search μ-search
+search-less c = omega arith
+
+search-again : tie.Need-search-again Inv-loop μ-loop Inv-search μ-search
+search-again c = (c .before .loop .inv .0, c .before .loop .inv .4)
+
+cast-if2 : tie.Need-cast-if2 Inv-loop μ-loop Inv-search μ-search
+cast-if2 c = omega arith
+
+shared-slice-read-if2 : tie.Need-shared-slice-read-if2 Inv-loop μ-loop Inv-search μ-search
+shared-slice-read-if2 c = omega arith
+
+add-at : tie.Need-add-at Inv-loop μ-loop Inv-search μ-search
+add-at c = omega arith
+
+loop-less : tie.Need-loop-less Inv-loop μ-loop Inv-search μ-search
+loop-less c = omega arith
+
+loop-again : tie.Need-loop-again Inv-loop μ-loop Inv-search μ-search
+loop-again c =
+    let l = c .before .before .before .loop in
+    let s = c .before .before .before .before .before .before .before in (
+      l .inv .0,
+      l .inv .1,
+      omega arith,
+      l .inv .3,
+      ahead-one (s .args .flash .now) _ (s .args .n) (omega arith) (l .at) (omega arith) (c .if2 .left) (l .inv .4),
+    )
+
+returns : tie.Need-returns Inv-loop μ-loop Inv-search μ-search
+returns c =
+    let l = c .before .search in
+    let s = c .before .before in
+    l .inv .0 ∙ ahead-none (s .args .flash .now) (s .args .from .0 + s .args .n - s .args .n) (s .args .n) (omega arith) (s .args .from .0) (omega arith) (l .at) (omega arith) (l .inv .1)
+
+returns-2 : tie.Need-returns-2 Inv-loop μ-loop Inv-search μ-search
+returns-2 c =
+    let l = c .before .before .before .loop in
+    let s = c .before .before .before .before .before .before .before in
+    ahead-found (s .args .flash .now) (s .args .from .0 + s .args .n - s .args .n) (s .args .n) (omega arith) (s .args .from .0) (omega arith) (l .at) (omega arith) (c .if2 .taken) (l .inv .4)
+
+pub search-from-spec : {M : Type 1} → statement M
+search-from-spec =
+    tie.close
+    (tie.spec
+    Inv-loop
+    μ-loop
+    Inv-search
+    μ-search
+    add-end
+    search-holds
+    sub-if1
+    add-stop
+    loop-holds
+    search-less
+    search-again
+    cast-if2
+    shared-slice-read-if2
+    add-at
+    loop-less
+    loop-again
+    returns
+    returns-2)
