@@ -1,0 +1,2 @@
+-- What Mullirim's sum of bytes promises.
+pub mod Crc

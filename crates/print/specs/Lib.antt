@@ -1,0 +1,2 @@
+-- What numbers look like in print.
+pub mod Hex

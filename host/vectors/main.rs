@@ -1,0 +1,45 @@
+//! The published CRC-32 vectors a second time, one bit after the other and with no table: the
+//! lines that the program `vectors` must write. Standard library only; `rustc -O main.rs`.
+
+/// The sum of a DFU file suffix: each bit of a byte, the lowest first, is compared with the low
+/// bit of the register, and where they differ the polynomial goes in.
+fn sum(bytes: &[u8]) -> u32 {
+    let mut register: u32 = 0xFFFF_FFFF;
+    for byte in bytes {
+        for place in 0..8 {
+            let bit = u32::from(byte >> place & 1);
+            let differs = register & 1 != bit;
+            register >>= 1;
+            if differs {
+                register ^= 0xEDB8_8320;
+            }
+        }
+    }
+    register
+}
+
+fn main() {
+    let rising: Vec<u8> = (0..32).collect();
+    let vectors: [(&str, &[u8], u32); 15] = [
+        ("empty", b"", 0x0000_0000),
+        ("a", b"a", 0xE8B7_BE43),
+        ("check", b"123456789", 0xCBF4_3926),
+        ("old", b"Discard medicine more than two years old.", 0x6B9C_DFE7),
+        ("fox", b"The quick brown fox jumps over the lazy dog", 0x414F_A339),
+        ("routines-1", &[0; 4], 0x2144_DF1C),
+        ("routines-2", &[0xF2, 0x01, 0x83], 0x24AB_9D77),
+        ("routines-3", &[0x0F, 0xAA, 0x00, 0x55], 0xB6C9_B287),
+        ("routines-4", &[0x00, 0xFF, 0x55, 0x11], 0x32A0_6212),
+        ("routines-5", &[0x33, 0x22, 0x55, 0xAA, 0xBB, 0xCC, 0xDD, 0xEE, 0xFF], 0xB0AE_863D),
+        ("routines-6", &[0x92, 0x6B, 0x55], 0x9CDE_A29B),
+        ("routines-7", &[0xFF; 4], 0xFFFF_FFFF),
+        ("zeros", &[0x00; 32], 0x190A_55AD),
+        ("ones", &[0xFF; 32], 0xFF6C_AB0B),
+        ("rising", &rising, 0x9126_7E8A),
+    ];
+    for (name, bytes, published) in vectors {
+        let sum = sum(bytes);
+        assert_eq!(!sum, published, "{name}");
+        println!("{name} {} {sum:08X} {:08X}", bytes.len(), !sum);
+    }
+}
