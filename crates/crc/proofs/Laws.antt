@@ -19,6 +19,11 @@ unfolding crcFrom
 crc-append c [] ys = refl
 crc-append c (x ∷ xs) ys = crc-append (byteStep c x) xs ys
 
+-- a sum goes on over further bytes
+pub crc-of-append : (s : ℕ) (xs ys : List ℕ) → s ≡ crcOf xs → crcFrom s ys ≡ crcOf (xs ++ ys)
+unfolding crcOf
+crc-of-append s xs ys e = rw e (sym (crc-append start xs ys))
+
 -- a turn of the walk takes in the next byte, and past the last one nothing is left
 pub crc-next : (c s : ℕ) (xs : List ℕ) (i : ℕ) → i < length xs → s ≡ byteStep c (getD xs i 0)
     → crcFrom s (drop (i + 1) xs) ≡ crcFrom c (drop i xs)
