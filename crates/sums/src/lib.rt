@@ -1,5 +1,64 @@
+// The kept sums of a flash: one for each application block and one over the whole application, made fresh and refreshed
+// after blocks changed. The application is given by its first block and the block after its last.
+use flash::Block;
+use flash::Reach;
+ghost use Prim.Native.Nat.{_≤_, _<_};
+ghost use mathlib.Core.Path.{_≡_};
+ghost use lib.ListN.{length};
+ghost use Rattle.crc.specs.Crc.{crcOf};
+ghost use Rattle.flash.specs.Flash.{startOf};
+ghost use Rattle.sums.specs.Sum.{mostBlocks, blocksOf, freshSums, refreshed, Split};
+
+// The most blocks that a flash may have: the one place in code that says so.
+pub const MOST: usize = 64;
+
 #[repr(C)]
 pub struct Sums {
-    pub block: [u32; 64],
+    pub block: [u32; MOST],
     pub whole: u32,
+}
+
+// The sum of blocks `first` to the one before `stop`.
+fn sum_of(flash: &[u8], first: Block, stop: Block) -> u32
+    requires { ⌜ Split (now flash) (first .0) (stop .0) ⌝ }
+    ensures { λ r. ⌜ r ≡ crcOf (blocksOf (now (flash .entry)) (first .0) (stop .0)) ⌝ }
+{
+    let Reach::At(from) = first.address() else {
+        return 0;
+    };
+    let Reach::At(to) = stop.address() else {
+        return 0;
+    };
+    let start = from.0 as usize;
+    let end = to.0 as usize;
+    crc::sum(&flash[start..end])
+}
+
+// The sums after blocks `first` to the one before `stop` changed.
+pub fn refresh(kept: Sums, flash: &[u8], a: Block, e: Block, first: Block, stop: Block) -> Sums
+    requires { ⌜ Split (now flash) (a .0) (e .0) ⌝ }
+    requires { ⌜ (first .0 ≤ stop .0) × (stop .0 ≤ e .0) ⌝ }
+    ensures { λ r. ⌜ r ≡ refreshed kept (now (flash .entry)) (a .0) (e .0) (first .0) (stop .0) ⌝ }
+{
+    let mut sums = kept;
+    let low = first.0;
+    let high = stop.0;
+    for k in low..high {
+        let i = k as usize;
+        sums.block[i] = sum_of(flash, Block(k), Block(k + 1));
+    }
+    sums.whole = sum_of(flash, a, e);
+    sums
+}
+
+// The sums of a flash, with nothing kept.
+pub fn fresh(flash: &[u8], a: Block, e: Block) -> Sums
+    requires { ⌜ Split (now flash) (a .0) (e .0) ⌝ }
+    ensures { λ r. ⌜ r ≡ freshSums (now (flash .entry)) (a .0) (e .0) ⌝ }
+{
+    let none = Sums {
+        block: [0u32; MOST],
+        whole: 0,
+    };
+    refresh(none, flash, a, e, a, e)
 }

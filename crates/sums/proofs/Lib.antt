@@ -1,0 +1,4 @@
+-- Laws of the kept sums.
+pub mod Values
+pub mod Renewed
+pub mod Laws

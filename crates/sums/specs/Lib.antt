@@ -1,0 +1,2 @@
+-- What the kept sums of a flash are.
+pub mod Sum
