@@ -1,11 +1,10 @@
 -- Laws of the session: fit is what its facts say, zeros are unfit, the fresh session is fit.
 use Prim.Native.Nat.{ℕ, _+_, _*_, _-_, _≤_, _<_}
-use native.Mathlib.Nat.{zero-add}
 use native.Mathlib.Decide.{ℕ-discrete}
 use native.Mathlib.Omega.{arith}
-use mathlib.Core.Path.{_≡_, refl, sym, ap, ap₂, _∙_}
+use mathlib.Core.Path.{_≡_, refl, ap, ap₂}
 use mathlib.Core.Logic.{_⊎_, inl, inr, ⊎-elim}
-use mathlib.Core.Bool.{Bool, true, false, not, _&&_, _||_, true≢false, false≢true}
+use mathlib.Core.Bool.{Bool, true, false, not, _&&_, _||_}
 use lib.Dec.{eqb, leb, ltb}
 use borrow.Author.Tests.{eqb-true, eqb-false, leb-true, ltb-true, eq-eqb, ne-eqb, le-leb, lt-ltb}
 use Rattle.flash.specs.Flash.{blockSize, startOf}
@@ -15,11 +14,15 @@ use Rattle.session.specs.declared.Phase.{Phase}
 use Rattle.session.specs.declared.Download.{Download}
 use Rattle.session.specs.declared.Upload.{Upload}
 use Rattle.session.specs.declared.Session.{Session}
-use Rattle.session.specs.Codes.{idle, downloadSync, downloadIdle, manifestSync, uploadIdle, error, knownState, ok, errorStatus}
-use Rattle.session.specs.Session.{mostBlocks, appEnd, noDownload, downOf, flashStream, infoBytes, infoLength, prefixLength, streamLength, withSums, wholeUpload, freshOf, zerosOf}
-use Rattle.session.specs.Rules.{splitRule, stateRule, statusRule, running, downloadRule, uploadRule, afterRule, rangeRule, placeRule, flagsRule, fitOf}
-use Rattle.session.specs.Fit.{OneOfSix, is-idle, is-download-sync, is-download-idle, is-manifest-sync, is-upload-idle, is-error, Fit}
-use Rattle.session.proofs.Tests.{both, left-of, right-of, either, unless, or-unless, where-true, or-where, pick-most}
+use Rattle.session.specs.Codes.{idle, downloadSync, downloadIdle, manifestSync, uploadIdle, error}
+use Rattle.session.specs.Codes.{knownState, ok, errorStatus}
+use Rattle.session.specs.Session.{mostBlocks, appEnd, noDownload, downOf, withSums, wholeUpload, freshOf, zerosOf}
+use Rattle.session.specs.Session.{flashStream, infoBytes, infoLength, prefixLength, streamLength}
+use Rattle.session.specs.Rules.{splitRule, stateRule, statusRule, running, downloadRule, uploadRule}
+use Rattle.session.specs.Rules.{afterRule, rangeRule, placeRule, flagsRule, fitOf}
+use Rattle.session.specs.Fit.{Fit, OneOfSix, is-idle, is-download-sync, is-download-idle, is-manifest-sync}
+use Rattle.session.specs.Fit.{is-upload-idle, is-error}
+use Rattle.session.proofs.Tests.{left-of, right-of, either, unless, or-unless, where-true, or-where, pick-most}
 
 -- the rules one by one
 pub record Kept (s : Session) : Type 0 where
@@ -87,7 +90,7 @@ state-cases n e =
                               | no n5 ↦
                                   is-error
                                   (eqb-true n error
-                                  (rw (ne-eqb n idle n1, ne-eqb n downloadSync n2, ne-eqb n downloadIdle n3, ne-eqb n manifestSync n4, ne-eqb n uploadIdle n5) at e))
+                                  (rw (ne-eqb _ _ n1, ne-eqb _ _ n2, ne-eqb _ _ n3, ne-eqb _ _ n4, ne-eqb _ _ n5) at e))
                             ]
                       ]
                 ]
@@ -102,21 +105,18 @@ cases-state n (is-manifest-sync p) = rw p
 cases-state n (is-upload-idle p) = rw p
 cases-state n (is-error p) = rw p
 
--- what each rule says
+-- what the rule of A and B says, and with it of the application's end
 module _ (b : Board) where
-  first-two : Bool
-  first-two = leb 1 (b .a .0) && ltb (b .a .0) (b .b .0)
-
   pub split-facts : splitRule b ≡ true → (1 ≤ b .a .0) × (b .a .0 < b .b .0) × (b .b .0 ≤ mostBlocks)
-  unfolding first-two
   split-facts e =
-      let l = left-of first-two (leb (b .b .0) mostBlocks) e in (
-        leb-true 1 (b .a .0) (left-of (leb 1 (b .a .0)) (ltb (b .a .0) (b .b .0)) l),
-        ltb-true (b .a .0) (b .b .0) (right-of (leb 1 (b .a .0)) (ltb (b .a .0) (b .b .0)) l),
-        leb-true (b .b .0) mostBlocks (right-of first-two (leb (b .b .0) mostBlocks) e),
+      let loader = leb 1 (b .a .0) in
+      let application = ltb (b .a .0) (b .b .0) in
+      let l = left-of (loader && application) (leb (b .b .0) mostBlocks) e in (
+        leb-true _ _ (left-of loader application l),
+        ltb-true _ _ (right-of loader application l),
+        leb-true _ _ (right-of (loader && application) (leb (b .b .0) mostBlocks) e),
       )
 
-  -- the application ends in the flash, and has a block
   pub end-in-flash : appEnd b ≤ b .b .0
   unfolding appEnd
   end-in-flash = omega arith
@@ -125,99 +125,112 @@ module _ (b : Board) where
   unfolding appEnd
   end-after-start e = split-facts e .1
 
+-- what the rules of the phase say
 module _ (p : Phase) where
-  outside : Bool
-  outside = eqb (p .state .0) error || eqb (p .status .0) ok
+  StatusFacts : Type 0
+  StatusFacts =
+      ((p .state .0 ≡ error → ⊥) → p .status .0 ≡ ok) × (p .state .0 ≡ error → errorStatus (p .status .0) ≡ true)
 
-  inside : Bool
-  inside = not (eqb (p .state .0) error) || errorStatus (p .status .0)
+  status-facts : statusRule p ≡ true → StatusFacts
+  unfolding StatusFacts
+  status-facts e =
+      let at = eqb (p .state .0) error in
+      let none = eqb (p .status .0) ok in
+      let one = errorStatus (p .status .0) in (
+        λ n. eqb-true _ _ (unless at none (left-of (at || none) (not at || one) e) (ne-eqb _ _ n)),
+        λ h. where-true at one (right-of (at || none) (not at || one) e) (eq-eqb _ _ h),
+      )
 
-  pub status-facts : statusRule p ≡ true → ((p .state .0 ≡ error → ⊥) → p .status .0 ≡ ok) × (p .state .0 ≡ error → errorStatus (p .status .0) ≡ true)
-  unfolding outside inside
-  status-facts e = (
-    λ n. eqb-true (p .status .0) ok (unless (eqb (p .state .0) error) (eqb (p .status .0) ok) (left-of outside inside e) (ne-eqb (p .state .0) error n)),
-    λ h. where-true (eqb (p .state .0) error) (errorStatus (p .status .0)) (right-of outside inside e) (eq-eqb (p .state .0) error h),
-  )
-
-  pub after-others : afterRule p ≡ true → (p .state .0 ≡ downloadSync → ⊥) → p .after .0 ≡ idle
+  after-others : afterRule p ≡ true → (p .state .0 ≡ downloadSync → ⊥) → p .after .0 ≡ idle
   after-others e n =
-      ⊎-elim (λ h. eqb-true (p .after .0) idle h)
-      (λ h. absurd (n (eqb-true (p .state .0) downloadSync (left-of (eqb (p .state .0) downloadSync) (eqb (p .after .0) downloadIdle) h))))
-      (either (eqb (p .after .0) idle) (eqb (p .state .0) downloadSync && eqb (p .after .0) downloadIdle) e)
+      let sync = eqb (p .state .0) downloadSync in
+      let on = eqb (p .after .0) downloadIdle in
+      ⊎-elim (λ h. eqb-true _ _ h) (λ h. absurd (n (eqb-true _ _ (left-of sync on h))))
+      (either (eqb (p .after .0) idle) (sync && on) e)
 
-  pub after-sync : afterRule p ≡ true → (p .after .0 ≡ idle) ⊎ (p .after .0 ≡ downloadIdle)
+  after-sync : afterRule p ≡ true → (p .after .0 ≡ idle) ⊎ (p .after .0 ≡ downloadIdle)
   after-sync e =
-      ⊎-elim (λ h. inl (eqb-true (p .after .0) idle h))
-      (λ h. inr (eqb-true (p .after .0) downloadIdle (right-of (eqb (p .state .0) downloadSync) (eqb (p .after .0) downloadIdle) h)))
-      (either (eqb (p .after .0) idle) (eqb (p .state .0) downloadSync && eqb (p .after .0) downloadIdle) e)
+      let sync = eqb (p .state .0) downloadSync in
+      let on = eqb (p .after .0) downloadIdle in
+      ⊎-elim (λ h. inl (eqb-true _ _ h)) (λ h. inr (eqb-true _ _ (right-of sync on h)))
+      (either (eqb (p .after .0) idle) (sync && on) e)
 
-  pub no-download : (d : Download) → downloadRule p d ≡ true → running p ≡ false → d ≡ noDownload
+  no-download : (d : Download) → downloadRule p d ≡ true → running p ≡ false → d ≡ noDownload
   no-download d e h =
-      let z = unless (running p) (eqb (d .place .0) 0 && eqb (d .left) 0) e h in
-      ap₂ downOf
-      (eqb-true (d .place .0) 0 (left-of (eqb (d .place .0) 0) (eqb (d .left) 0) z))
-      (eqb-true (d .left) 0 (right-of (eqb (d .place .0) 0) (eqb (d .left) 0) z))
+      let no-place = eqb (d .place .0) 0 in
+      let none-left = eqb (d .left) 0 in
+      let z = unless (running p) (no-place && none-left) e h in
+      ap₂ downOf (eqb-true _ _ (left-of no-place none-left z)) (eqb-true _ _ (right-of no-place none-left z))
 
-module _ (p : Phase) (u : Upload) where
-  still : Bool
-  still = eqb (p .state .0) uploadIdle || eqb (u .place) 0
+-- what the rules of the upload say
+module _ (b : Board) (p : Phase) (u : Upload) where
+  UploadFacts : Type 0
+  UploadFacts = ((p .state .0 ≡ uploadIdle → ⊥) → u .place ≡ 0) × (u .place ≤ streamLength u)
 
-  pub upload-facts : uploadRule p u ≡ true → ((p .state .0 ≡ uploadIdle → ⊥) → u .place ≡ 0) × (u .place ≤ streamLength u)
-  unfolding still
-  upload-facts e = (
-    λ n. eqb-true (u .place) 0 (unless (eqb (p .state .0) uploadIdle) (eqb (u .place) 0) (left-of still (leb (u .place) (streamLength u)) e) (ne-eqb (p .state .0) uploadIdle n)),
-    leb-true (u .place) (streamLength u) (right-of still (leb (u .place) (streamLength u)) e),
-  )
+  upload-facts : uploadRule p u ≡ true → UploadFacts
+  unfolding UploadFacts
+  upload-facts e =
+      let on = eqb (p .state .0) uploadIdle in
+      let none = eqb (u .place) 0 in
+      let short = leb (u .place) (streamLength u) in (
+        λ n. eqb-true _ _ (unless on none (left-of (on || none) short e) (ne-eqb _ _ n)),
+        leb-true _ _ (right-of (on || none) short e),
+      )
 
-pub flags-facts : (u : Upload) → flagsRule u ≡ true → (u .choice ≤ 1) × (u .«prefix» ≤ 1)
-flags-facts u e = (
-  leb-true (u .choice) 1 (left-of (leb (u .choice) 1) (leb (u .«prefix») 1) e),
-  leb-true (u .«prefix») 1 (right-of (leb (u .choice) 1) (leb (u .«prefix») 1) e),
-)
+  RangeFacts : Type 0
+  RangeFacts =
+      (0 < u .len) × (b .a .0 ≤ u .first .0) × (startOf (u .first .0) + u .len ≤ startOf (appEnd b))
 
-module _ (b : Board) (u : Upload) where
-  end : ℕ
-  end = startOf (appEnd b)
-
-  some : Bool
-  some = ltb 0 (u .len) && leb (b .a .0) (u .first .0)
-
-  pub range-facts : rangeRule b u ≡ true → (0 < u .len) × (b .a .0 ≤ u .first .0) × (startOf (u .first .0) + u .len ≤ startOf (appEnd b))
-  unfolding end some
+  range-facts : rangeRule b u ≡ true → RangeFacts
+  unfolding RangeFacts
   range-facts e =
-      let l = left-of some (leb (startOf (u .first .0) + u .len) end) e in (
-        ltb-true 0 (u .len) (left-of (ltb 0 (u .len)) (leb (b .a .0) (u .first .0)) l),
-        leb-true (b .a .0) (u .first .0) (right-of (ltb 0 (u .len)) (leb (b .a .0) (u .first .0)) l),
-        leb-true (startOf (u .first .0) + u .len) end (right-of some (leb (startOf (u .first .0) + u .len) end) e),
+      let some = ltb 0 (u .len) in
+      let begins = leb (b .a .0) (u .first .0) in
+      let ends = leb (startOf (u .first .0) + u .len) (startOf (appEnd b)) in
+      let l = left-of (some && begins) ends e in (
+        ltb-true _ _ (left-of some begins l),
+        leb-true _ _ (right-of some begins l),
+        leb-true _ _ (right-of (some && begins) ends e),
       )
 
+  flags-facts : flagsRule u ≡ true → (u .choice ≤ 1) × (u .«prefix» ≤ 1)
+  flags-facts e =
+      let choice = leb (u .choice) 1 in
+      let flag = leb (u .«prefix») 1 in
+      (leb-true _ _ (left-of choice flag e), leb-true _ _ (right-of choice flag e))
+
+-- what the rule of a running download's place says
 module _ (b : Board) (p : Phase) (d : Download) where
-  before-end : Bool
-  before-end = leb (startOf (b .a .0)) (d .place .0) && leb (d .place .0) (startOf (appEnd b))
+  PlaceFacts : Type 0
+  PlaceFacts =
+      (startOf (b .a .0) ≤ d .place .0)
+      × (d .place .0 ≤ startOf (appEnd b))
+      × (d .place .0 + d .left ≤ startOf (appEnd b))
 
-  all-before-end : Bool
-  all-before-end = leb (d .place .0 + d .left) (startOf (appEnd b))
-
-  pub place-facts : placeRule b p d ≡ true → running p ≡ true → (startOf (b .a .0) ≤ d .place .0) × (d .place .0 ≤ startOf (appEnd b)) × (d .place .0 + d .left ≤ startOf (appEnd b))
-  unfolding before-end all-before-end
+  place-facts : placeRule b p d ≡ true → running p ≡ true → PlaceFacts
+  unfolding PlaceFacts
   place-facts e r =
-      let w = where-true (running p) (before-end && all-before-end) e r in
-      let l = left-of before-end all-before-end w in (
-        leb-true (startOf (b .a .0)) (d .place .0) (left-of (leb (startOf (b .a .0)) (d .place .0)) (leb (d .place .0) (startOf (appEnd b))) l),
-        leb-true (d .place .0) (startOf (appEnd b)) (right-of (leb (startOf (b .a .0)) (d .place .0)) (leb (d .place .0) (startOf (appEnd b))) l),
-        leb-true (d .place .0 + d .left) (startOf (appEnd b)) (right-of before-end all-before-end w),
+      let begins = leb (startOf (b .a .0)) (d .place .0) in
+      let ends = leb (d .place .0) (startOf (appEnd b)) in
+      let fits = leb (d .place .0 + d .left) (startOf (appEnd b)) in
+      let w = where-true (running p) (begins && ends && fits) e r in
+      let l = left-of (begins && ends) fits w in (
+        leb-true _ _ (left-of begins ends l),
+        leb-true _ _ (right-of begins ends l),
+        leb-true _ _ (right-of (begins && ends) fits w),
       )
 
--- a fit session has all the facts, and a session that has them is fit
+-- a fit session has all the facts
 pub fit-facts : (s : Session) → fitOf s ≡ true → Fit s
+unfolding StatusFacts UploadFacts RangeFacts PlaceFacts
 fit-facts s e =
     let k = fit-kept s e in
     let split = split-facts (s .board) (k .split) in
     let status = status-facts (s .phase) (k .status) in
-    let upload = upload-facts (s .phase) (s .up) (k .upload) in
-    let range = range-facts (s .board) (s .up) (k .range) in
+    let upload = upload-facts (s .board) (s .phase) (s .up) (k .upload) in
+    let range = range-facts (s .board) (s .phase) (s .up) (k .range) in
     let place = place-facts (s .board) (s .phase) (s .down) (k .place) in
-    let flags = flags-facts (s .up) (k .flags) in
+    let flags = flags-facts (s .board) (s .phase) (s .up) (k .flags) in
     record {
       some-loader = split .0;
       some-application = split .1;
@@ -240,52 +253,66 @@ fit-facts s e =
       flag = flags .1;
     }
 
-after-two : (s : Session) → Fit s → eqb (s .phase .after .0) idle ≡ false → (eqb (s .phase .state .0) downloadSync && eqb (s .phase .after .0) downloadIdle) ≡ true
-after-two s f n =
-    elim (ℕ-discrete (s .phase .state .0) downloadSync) [
-      | yes h ↦
-          ⊎-elim (λ a. absurd (eqb-false (s .phase .after .0) idle n a))
-          (λ a. both (eqb (s .phase .state .0) downloadSync) (eqb (s .phase .after .0) downloadIdle) (eq-eqb (s .phase .state .0) downloadSync h) (eq-eqb (s .phase .after .0) downloadIdle a))
-          (f .after-sync h)
-      | no h ↦ absurd (eqb-false (s .phase .after .0) idle n (f .after-others h))
-    ]
+after-two :
+    (p : Phase) → p .state .0 ≡ downloadSync → (p .after .0 ≡ idle) ⊎ (p .after .0 ≡ downloadIdle) → afterRule p ≡ true
+after-two p h (inl a) = rw a
+after-two p h (inr a) = rw (h, a)
 
+-- a session that has the facts keeps the rules that are no conjunction of orders
+module _ (s : Session) (f : Fit s) where
+  status-kept : statusRule (s .phase) ≡ true
+  status-kept =
+      let at = eqb (s .phase .state .0) error in
+      rw (
+        or-unless at (eqb (s .phase .status .0) ok) (λ n. eq-eqb _ _ (f .status-outside (eqb-false _ _ n))),
+        or-where at (errorStatus (s .phase .status .0)) (λ h. f .status-inside (eqb-true _ _ h)),
+      )
+
+  download-kept : downloadRule (s .phase) (s .down) ≡ true
+  download-kept =
+      let zero : Download → Bool = λ d. eqb (d .place .0) 0 && eqb (d .left) 0 in
+      or-unless (running (s .phase)) (zero (s .down)) (λ n. ap zero (f .no-download n))
+
+  upload-kept : uploadRule (s .phase) (s .up) ≡ true
+  upload-kept =
+      let on = eqb (s .phase .state .0) uploadIdle in
+      rw (
+        or-unless on (eqb (s .up .place) 0) (λ n. eq-eqb _ _ (f .no-upload (eqb-false _ _ n))),
+        le-leb _ _ (f .in-stream),
+      )
+
+  after-kept : afterRule (s .phase) ≡ true
+  after-kept =
+      elim (ℕ-discrete (s .phase .state .0) downloadSync) [
+        | yes h ↦ after-two (s .phase) h (f .after-sync h)
+        | no h ↦ rw (f .after-others h)
+      ]
+
+  place-kept : placeRule (s .board) (s .phase) (s .down) ≡ true
+  place-kept =
+      or-where (running (s .phase)) _
+      (λ r. rw (le-leb _ _ (f .place-from r), le-leb _ _ (f .place-to r), le-leb _ _ (f .left-to r)))
+
+-- a session that has all the facts is fit
 pub facts-fit : (s : Session) → Fit s → fitOf s ≡ true
 facts-fit s f =
-    let p = s .phase in
-    let u = s .up in
-    let d = s .down in
-    let b = s .board in
     kept-fit s
     (record {
-      split =
-          both (leb 1 (b .a .0) && ltb (b .a .0) (b .b .0)) (leb (b .b .0) mostBlocks)
-          (both (leb 1 (b .a .0)) (ltb (b .a .0) (b .b .0)) (le-leb 1 (b .a .0) (f .some-loader)) (lt-ltb (b .a .0) (b .b .0) (f .some-application)))
-          (le-leb (b .b .0) mostBlocks (f .few-blocks));
-      state = cases-state (p .state .0) (f .state);
-      status =
-          both (eqb (p .state .0) error || eqb (p .status .0) ok) (not (eqb (p .state .0) error) || errorStatus (p .status .0))
-          (or-unless (eqb (p .state .0) error) (eqb (p .status .0) ok) (λ n. eq-eqb (p .status .0) ok (f .status-outside (eqb-false (p .state .0) error n))))
-          (or-where (eqb (p .state .0) error) (errorStatus (p .status .0)) (λ h. f .status-inside (eqb-true (p .state .0) error h)));
-      download =
-          or-unless (running p) (eqb (d .place .0) 0 && eqb (d .left) 0)
-          (λ n. ap (λ (x : Download). eqb (x .place .0) 0 && eqb (x .left) 0) (f .no-download n));
-      upload =
-          both (eqb (p .state .0) uploadIdle || eqb (u .place) 0) (leb (u .place) (streamLength u))
-          (or-unless (eqb (p .state .0) uploadIdle) (eqb (u .place) 0) (λ n. eq-eqb (u .place) 0 (f .no-upload (eqb-false (p .state .0) uploadIdle n))))
-          (le-leb (u .place) (streamLength u) (f .in-stream));
-      after =
-          or-unless (eqb (p .after .0) idle) (eqb (p .state .0) downloadSync && eqb (p .after .0) downloadIdle) (after-two s f);
-      range =
-          both (ltb 0 (u .len) && leb (b .a .0) (u .first .0)) (leb (startOf (u .first .0) + u .len) (startOf (appEnd b)))
-          (both (ltb 0 (u .len)) (leb (b .a .0) (u .first .0)) (lt-ltb 0 (u .len) (f .range-some)) (le-leb (b .a .0) (u .first .0) (f .range-from)))
-          (le-leb (startOf (u .first .0) + u .len) (startOf (appEnd b)) (f .range-to));
-      place =
-          or-where (running p) (leb (startOf (b .a .0)) (d .place .0) && leb (d .place .0) (startOf (appEnd b)) && leb (d .place .0 + d .left) (startOf (appEnd b)))
-          (λ r. rw (le-leb (startOf (b .a .0)) (d .place .0) (f .place-from r), le-leb (d .place .0) (startOf (appEnd b)) (f .place-to r), le-leb (d .place .0 + d .left) (startOf (appEnd b)) (f .left-to r)));
-      flags =
-          both (leb (u .choice) 1) (leb (u .«prefix») 1) (le-leb (u .choice) 1 (f .choice)) (le-leb (u .«prefix») 1 (f .flag));
+      split = rw (le-leb _ _ (f .some-loader), lt-ltb _ _ (f .some-application), le-leb _ _ (f .few-blocks));
+      state = cases-state (s .phase .state .0) (f .state);
+      status = status-kept s f;
+      download = download-kept s f;
+      upload = upload-kept s f;
+      after = after-kept s f;
+      range = rw (lt-ltb _ _ (f .range-some), le-leb _ _ (f .range-from), le-leb _ _ (f .range-to));
+      place = place-kept s f;
+      flags = rw (le-leb _ _ (f .choice), le-leb _ _ (f .flag));
     })
+
+-- the sums aren't judged
+pub sums-free : (s : Session) (sums : Sums) → fitOf (withSums s sums) ≡ fitOf s
+unfolding fitOf
+sums-free s sums = refl
 
 -- the session of zeros is unfit
 pub zeros-unfit : fitOf zerosOf ≡ false
@@ -297,6 +324,7 @@ pub fresh-fit : (b : Board) (sums : Sums) → splitRule b ≡ true → fitOf (fr
 unfolding freshOf wholeUpload
 fresh-fit b sums e =
     let h = end-after-start b e in
+    let len = (appEnd b - b .a .0) * blockSize in
     kept-fit (freshOf b sums)
     (record {
       split = e;
@@ -306,24 +334,23 @@ fresh-fit b sums e =
       upload = le-leb 0 (streamLength (wholeUpload b)) (omega arith);
       after = refl;
       range =
-          rw (lt-ltb 0 ((appEnd b - b .a .0) * blockSize) (omega arith), le-leb (b .a .0) (b .a .0) (omega arith), le-leb (startOf (b .a .0) + (appEnd b - b .a .0) * blockSize) (startOf (appEnd b)) (omega arith));
+          rw (
+            lt-ltb 0 len (omega arith),
+            le-leb (b .a .0) (b .a .0) (omega arith),
+            le-leb (startOf (b .a .0) + len) (startOf (appEnd b)) (omega arith),
+          );
       place = refl;
       flags = refl;
     })
 
--- the sums aren't judged
-pub sums-free : (s : Session) (sums : Sums) → fitOf (withSums s sums) ≡ fitOf s
-unfolding fitOf
-sums-free s sums = refl
-
--- the streams' lengths
+-- the lengths of the two streams
 pub info-length : (u : Upload) → u .choice ≡ infoBytes → streamLength u ≡ infoLength
 unfolding streamLength
-info-length u h = rw (eq-eqb (u .choice) infoBytes h)
+info-length u h = rw h
 
 pub flash-length : (u : Upload) → u .choice ≡ flashStream → streamLength u ≡ prefixLength u + u .len
 unfolding streamLength
-flash-length u h = rw (h)
+flash-length u h = rw h
 
 pub prefix-most : (u : Upload) → prefixLength u ≤ 8
 prefix-most u = pick-most (eqb (u .«prefix») 1) (omega arith) (omega arith)

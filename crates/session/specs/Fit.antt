@@ -29,7 +29,8 @@ pub record Fit (s : Session) : Type 0 where
   pub no-download : running (s .phase) ≡ false → s .down ≡ noDownload
   pub no-upload : (s .phase .state .0 ≡ uploadIdle → ⊥) → s .up .place ≡ 0
   pub in-stream : s .up .place ≤ streamLength (s .up)
-  pub after-sync : s .phase .state .0 ≡ downloadSync → (s .phase .after .0 ≡ idle) ⊎ (s .phase .after .0 ≡ downloadIdle)
+  pub after-sync :
+      s .phase .state .0 ≡ downloadSync → (s .phase .after .0 ≡ idle) ⊎ (s .phase .after .0 ≡ downloadIdle)
   pub after-others : (s .phase .state .0 ≡ downloadSync → ⊥) → s .phase .after .0 ≡ idle
   pub range-some : 0 < s .up .len
   pub range-from : s .board .a .0 ≤ s .up .first .0

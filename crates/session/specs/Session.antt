@@ -32,7 +32,8 @@ appEnd board = board .b .0
 
 -- a state, its status and the state after sync
 abbrev pub phaseOf : ℕ → ℕ → ℕ → Phase
-phaseOf state status after = record { state = record { 0 = state }; status = record { 0 = status }; after = record { 0 = after } }
+phaseOf state status after =
+    record { state = record { 0 = state }; status = record { 0 = status }; after = record { 0 = after } }
 
 -- a download: where its next byte goes and how many bytes remain
 abbrev pub downOf : ℕ → ℕ → Download

@@ -8,7 +8,8 @@ ghost use mathlib.Core.Path.{_≡_};
 ghost use mathlib.Core.Bool.{true};
 ghost use Rattle.flash.specs.Flash.{startOf};
 ghost use Rattle.session.specs.Session.{allowedSplit, boardOf, appEnd, streamLength, freshOf, zerosOf};
-ghost use Rattle.session.specs.Rules.{splitRule, stateRule, statusRule, running, downloadRule, uploadRule, afterRule, rangeRule, placeRule, flagsRule, fitOf};
+ghost use Rattle.session.specs.Rules.{stateRule, statusRule, running, downloadRule, uploadRule};
+ghost use Rattle.session.specs.Rules.{afterRule, rangeRule, placeRule, flagsRule, fitOf};
 
 // The most blocks that a flash has.
 const MOST: u32 = 64;
