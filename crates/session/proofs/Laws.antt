@@ -1,0 +1,363 @@
+-- Laws of the session: fit is what its facts say, zeros are unfit, the fresh session is fit.
+use Prim.Native.Nat.{ℕ, _+_, _*_, _-_, _≤_, _<_}
+use native.Mathlib.Decide.{ℕ-discrete}
+use native.Mathlib.Omega.{arith}
+use mathlib.Core.Path.{_≡_, refl, ap, ap₂}
+use mathlib.Core.Logic.{_⊎_, inl, inr, ⊎-elim}
+use mathlib.Core.Bool.{Bool, true, false, not, _&&_, _||_}
+use lib.Dec.{eqb, leb, ltb}
+use borrow.Author.Tests.{eqb-true, eqb-false, leb-true, ltb-true, eq-eqb, ne-eqb, le-leb, lt-ltb}
+use Rattle.flash.specs.Flash.{blockSize, startOf}
+use Rattle.sums.specs.declared.Sums.{Sums}
+use Rattle.session.specs.declared.Board.{Board}
+use Rattle.session.specs.declared.Phase.{Phase}
+use Rattle.session.specs.declared.Download.{Download}
+use Rattle.session.specs.declared.Upload.{Upload}
+use Rattle.session.specs.declared.Session.{Session}
+use Rattle.session.specs.Codes.{idle, downloadSync, downloadIdle, manifestSync, uploadIdle, error}
+use Rattle.session.specs.Codes.{knownState, ok, errorStatus}
+use Rattle.session.specs.Session.{mostBlocks, appEnd, noDownload, downOf, withSums, wholeUpload, freshOf, zerosOf}
+use Rattle.session.specs.Session.{flashStream, infoBytes, infoLength, prefixLength, streamLength}
+use Rattle.session.specs.Rules.{splitRule, stateRule, statusRule, running, downloadRule, uploadRule}
+use Rattle.session.specs.Rules.{afterRule, rangeRule, placeRule, flagsRule, fitOf}
+use Rattle.session.specs.Fit.{Fit, OneOfSix, is-idle, is-download-sync, is-download-idle, is-manifest-sync}
+use Rattle.session.specs.Fit.{is-upload-idle, is-error}
+use Rattle.session.proofs.Tests.{left-of, right-of, either, unless, or-unless, where-true, or-where, pick-most}
+
+-- the rules one by one
+pub record Kept (s : Session) : Type 0 where
+  pub split : splitRule (s .board) ≡ true
+  pub state : stateRule (s .phase) ≡ true
+  pub status : statusRule (s .phase) ≡ true
+  pub download : downloadRule (s .phase) (s .down) ≡ true
+  pub upload : uploadRule (s .phase) (s .up) ≡ true
+  pub after : afterRule (s .phase) ≡ true
+  pub range : rangeRule (s .board) (s .up) ≡ true
+  pub place : placeRule (s .board) (s .phase) (s .down) ≡ true
+  pub flags : flagsRule (s .up) ≡ true
+
+pub fit-kept : (s : Session) → fitOf s ≡ true → Kept s
+unfolding fitOf
+fit-kept s e =
+    let r2 = splitRule (s .board) && stateRule (s .phase) in
+    let r3 = r2 && statusRule (s .phase) in
+    let r4 = r3 && downloadRule (s .phase) (s .down) in
+    let r5 = r4 && uploadRule (s .phase) (s .up) in
+    let r6 = r5 && afterRule (s .phase) in
+    let r7 = r6 && rangeRule (s .board) (s .up) in
+    let r8 = r7 && placeRule (s .board) (s .phase) (s .down) in
+    let e8 = left-of r8 (flagsRule (s .up)) e in
+    let e7 = left-of r7 (placeRule (s .board) (s .phase) (s .down)) e8 in
+    let e6 = left-of r6 (rangeRule (s .board) (s .up)) e7 in
+    let e5 = left-of r5 (afterRule (s .phase)) e6 in
+    let e4 = left-of r4 (uploadRule (s .phase) (s .up)) e5 in
+    let e3 = left-of r3 (downloadRule (s .phase) (s .down)) e4 in
+    let e2 = left-of r2 (statusRule (s .phase)) e3 in
+    record {
+      split = left-of (splitRule (s .board)) (stateRule (s .phase)) e2;
+      state = right-of (splitRule (s .board)) (stateRule (s .phase)) e2;
+      status = right-of r2 (statusRule (s .phase)) e3;
+      download = right-of r3 (downloadRule (s .phase) (s .down)) e4;
+      upload = right-of r4 (uploadRule (s .phase) (s .up)) e5;
+      after = right-of r5 (afterRule (s .phase)) e6;
+      range = right-of r6 (rangeRule (s .board) (s .up)) e7;
+      place = right-of r7 (placeRule (s .board) (s .phase) (s .down)) e8;
+      flags = right-of r8 (flagsRule (s .up)) e;
+    }
+
+pub kept-fit : (s : Session) → Kept s → fitOf s ≡ true
+unfolding fitOf
+kept-fit s k =
+    rw (k .split, k .state, k .status, k .download, k .upload, k .after, k .range, k .place, k .flags)
+
+-- a known state is one of six
+pub state-cases : (n : ℕ) → knownState n ≡ true → OneOfSix n
+state-cases n e =
+    elim (ℕ-discrete n idle) [
+      | yes p ↦ is-idle p
+      | no n1 ↦
+          elim (ℕ-discrete n downloadSync) [
+            | yes p ↦ is-download-sync p
+            | no n2 ↦
+                elim (ℕ-discrete n downloadIdle) [
+                  | yes p ↦ is-download-idle p
+                  | no n3 ↦
+                      elim (ℕ-discrete n manifestSync) [
+                        | yes p ↦ is-manifest-sync p
+                        | no n4 ↦
+                            elim (ℕ-discrete n uploadIdle) [
+                              | yes p ↦ is-upload-idle p
+                              | no n5 ↦
+                                  is-error
+                                  (eqb-true n error
+                                  (rw (ne-eqb _ _ n1, ne-eqb _ _ n2, ne-eqb _ _ n3, ne-eqb _ _ n4, ne-eqb _ _ n5) at e))
+                            ]
+                      ]
+                ]
+          ]
+    ]
+
+pub cases-state : (n : ℕ) → OneOfSix n → knownState n ≡ true
+cases-state n (is-idle p) = rw p
+cases-state n (is-download-sync p) = rw p
+cases-state n (is-download-idle p) = rw p
+cases-state n (is-manifest-sync p) = rw p
+cases-state n (is-upload-idle p) = rw p
+cases-state n (is-error p) = rw p
+
+-- what the rule of A and B says, and with it of the application's end
+module _ (b : Board) where
+  pub split-facts : splitRule b ≡ true → (1 ≤ b .a .0) × (b .a .0 < b .b .0) × (b .b .0 ≤ mostBlocks)
+  split-facts e =
+      let loader = leb 1 (b .a .0) in
+      let application = ltb (b .a .0) (b .b .0) in
+      let l = left-of (loader && application) (leb (b .b .0) mostBlocks) e in (
+        leb-true _ _ (left-of loader application l),
+        ltb-true _ _ (right-of loader application l),
+        leb-true _ _ (right-of (loader && application) (leb (b .b .0) mostBlocks) e),
+      )
+
+  pub end-in-flash : appEnd b ≤ b .b .0
+  unfolding appEnd
+  end-in-flash = omega arith
+
+  pub end-after-start : splitRule b ≡ true → b .a .0 < appEnd b
+  unfolding appEnd
+  end-after-start e = split-facts e .1
+
+-- what the rules of the phase say
+module _ (p : Phase) where
+  StatusFacts : Type 0
+  StatusFacts =
+      ((p .state .0 ≡ error → ⊥) → p .status .0 ≡ ok) × (p .state .0 ≡ error → errorStatus (p .status .0) ≡ true)
+
+  status-facts : statusRule p ≡ true → StatusFacts
+  unfolding StatusFacts
+  status-facts e =
+      let at = eqb (p .state .0) error in
+      let none = eqb (p .status .0) ok in
+      let one = errorStatus (p .status .0) in (
+        λ n. eqb-true _ _ (unless at none (left-of (at || none) (not at || one) e) (ne-eqb _ _ n)),
+        λ h. where-true at one (right-of (at || none) (not at || one) e) (eq-eqb _ _ h),
+      )
+
+  after-others : afterRule p ≡ true → (p .state .0 ≡ downloadSync → ⊥) → p .after .0 ≡ idle
+  after-others e n =
+      let sync = eqb (p .state .0) downloadSync in
+      let on = eqb (p .after .0) downloadIdle in
+      ⊎-elim (λ h. eqb-true _ _ h) (λ h. absurd (n (eqb-true _ _ (left-of sync on h))))
+      (either (eqb (p .after .0) idle) (sync && on) e)
+
+  after-sync : afterRule p ≡ true → (p .after .0 ≡ idle) ⊎ (p .after .0 ≡ downloadIdle)
+  after-sync e =
+      let sync = eqb (p .state .0) downloadSync in
+      let on = eqb (p .after .0) downloadIdle in
+      ⊎-elim (λ h. inl (eqb-true _ _ h)) (λ h. inr (eqb-true _ _ (right-of sync on h)))
+      (either (eqb (p .after .0) idle) (sync && on) e)
+
+  no-download : (d : Download) → downloadRule p d ≡ true → running p ≡ false → d ≡ noDownload
+  no-download d e h =
+      let no-place = eqb (d .place .0) 0 in
+      let none-left = eqb (d .left) 0 in
+      let z = unless (running p) (no-place && none-left) e h in
+      ap₂ downOf (eqb-true _ _ (left-of no-place none-left z)) (eqb-true _ _ (right-of no-place none-left z))
+
+-- what the rules of the upload say
+module _ (b : Board) (p : Phase) (u : Upload) where
+  UploadFacts : Type 0
+  UploadFacts = ((p .state .0 ≡ uploadIdle → ⊥) → u .place ≡ 0) × (u .place ≤ streamLength u)
+
+  upload-facts : uploadRule p u ≡ true → UploadFacts
+  unfolding UploadFacts
+  upload-facts e =
+      let on = eqb (p .state .0) uploadIdle in
+      let none = eqb (u .place) 0 in
+      let short = leb (u .place) (streamLength u) in (
+        λ n. eqb-true _ _ (unless on none (left-of (on || none) short e) (ne-eqb _ _ n)),
+        leb-true _ _ (right-of (on || none) short e),
+      )
+
+  RangeFacts : Type 0
+  RangeFacts =
+      (0 < u .len) × (b .a .0 ≤ u .first .0) × (startOf (u .first .0) + u .len ≤ startOf (appEnd b))
+
+  range-facts : rangeRule b u ≡ true → RangeFacts
+  unfolding RangeFacts
+  range-facts e =
+      let some = ltb 0 (u .len) in
+      let begins = leb (b .a .0) (u .first .0) in
+      let ends = leb (startOf (u .first .0) + u .len) (startOf (appEnd b)) in
+      let l = left-of (some && begins) ends e in (
+        ltb-true _ _ (left-of some begins l),
+        leb-true _ _ (right-of some begins l),
+        leb-true _ _ (right-of (some && begins) ends e),
+      )
+
+  flags-facts : flagsRule u ≡ true → (u .choice ≤ 1) × (u .«prefix» ≤ 1)
+  flags-facts e =
+      let choice = leb (u .choice) 1 in
+      let flag = leb (u .«prefix») 1 in
+      (leb-true _ _ (left-of choice flag e), leb-true _ _ (right-of choice flag e))
+
+-- what the rule of a running download's place says
+module _ (b : Board) (p : Phase) (d : Download) where
+  PlaceFacts : Type 0
+  PlaceFacts =
+      (startOf (b .a .0) ≤ d .place .0)
+      × (d .place .0 ≤ startOf (appEnd b))
+      × (d .place .0 + d .left ≤ startOf (appEnd b))
+
+  place-facts : placeRule b p d ≡ true → running p ≡ true → PlaceFacts
+  unfolding PlaceFacts
+  place-facts e r =
+      let begins = leb (startOf (b .a .0)) (d .place .0) in
+      let ends = leb (d .place .0) (startOf (appEnd b)) in
+      let fits = leb (d .place .0 + d .left) (startOf (appEnd b)) in
+      let w = where-true (running p) (begins && ends && fits) e r in
+      let l = left-of (begins && ends) fits w in (
+        leb-true _ _ (left-of begins ends l),
+        leb-true _ _ (right-of begins ends l),
+        leb-true _ _ (right-of (begins && ends) fits w),
+      )
+
+-- a fit session has all the facts
+pub fit-facts : (s : Session) → fitOf s ≡ true → Fit s
+unfolding StatusFacts UploadFacts RangeFacts PlaceFacts
+fit-facts s e =
+    let k = fit-kept s e in
+    let split = split-facts (s .board) (k .split) in
+    let status = status-facts (s .phase) (k .status) in
+    let upload = upload-facts (s .board) (s .phase) (s .up) (k .upload) in
+    let range = range-facts (s .board) (s .phase) (s .up) (k .range) in
+    let place = place-facts (s .board) (s .phase) (s .down) (k .place) in
+    let flags = flags-facts (s .board) (s .phase) (s .up) (k .flags) in
+    record {
+      some-loader = split .0;
+      some-application = split .1;
+      few-blocks = split .2;
+      state = state-cases (s .phase .state .0) (k .state);
+      status-outside = status .0;
+      status-inside = status .1;
+      no-download = no-download (s .phase) (s .down) (k .download);
+      no-upload = upload .0;
+      in-stream = upload .1;
+      after-sync = λ h. after-sync (s .phase) (k .after);
+      after-others = after-others (s .phase) (k .after);
+      range-some = range .0;
+      range-from = range .1;
+      range-to = range .2;
+      place-from = λ r. place r .0;
+      place-to = λ r. place r .1;
+      left-to = λ r. place r .2;
+      choice = flags .0;
+      flag = flags .1;
+    }
+
+after-two :
+    (p : Phase) → p .state .0 ≡ downloadSync → (p .after .0 ≡ idle) ⊎ (p .after .0 ≡ downloadIdle) → afterRule p ≡ true
+after-two p h (inl a) = rw a
+after-two p h (inr a) = rw (h, a)
+
+-- a session that has the facts keeps the rules that are no conjunction of orders
+module _ (s : Session) (f : Fit s) where
+  status-kept : statusRule (s .phase) ≡ true
+  status-kept =
+      let at = eqb (s .phase .state .0) error in
+      rw (
+        or-unless at (eqb (s .phase .status .0) ok) (λ n. eq-eqb _ _ (f .status-outside (eqb-false _ _ n))),
+        or-where at (errorStatus (s .phase .status .0)) (λ h. f .status-inside (eqb-true _ _ h)),
+      )
+
+  download-kept : downloadRule (s .phase) (s .down) ≡ true
+  download-kept =
+      let zero : Download → Bool = λ d. eqb (d .place .0) 0 && eqb (d .left) 0 in
+      or-unless (running (s .phase)) (zero (s .down)) (λ n. ap zero (f .no-download n))
+
+  upload-kept : uploadRule (s .phase) (s .up) ≡ true
+  upload-kept =
+      let on = eqb (s .phase .state .0) uploadIdle in
+      rw (
+        or-unless on (eqb (s .up .place) 0) (λ n. eq-eqb _ _ (f .no-upload (eqb-false _ _ n))),
+        le-leb _ _ (f .in-stream),
+      )
+
+  after-kept : afterRule (s .phase) ≡ true
+  after-kept =
+      elim (ℕ-discrete (s .phase .state .0) downloadSync) [
+        | yes h ↦ after-two (s .phase) h (f .after-sync h)
+        | no h ↦ rw (f .after-others h)
+      ]
+
+  place-kept : placeRule (s .board) (s .phase) (s .down) ≡ true
+  place-kept =
+      or-where (running (s .phase)) _
+      (λ r. rw (le-leb _ _ (f .place-from r), le-leb _ _ (f .place-to r), le-leb _ _ (f .left-to r)))
+
+-- a session that has all the facts is fit
+pub facts-fit : (s : Session) → Fit s → fitOf s ≡ true
+facts-fit s f =
+    kept-fit s
+    (record {
+      split = rw (le-leb _ _ (f .some-loader), lt-ltb _ _ (f .some-application), le-leb _ _ (f .few-blocks));
+      state = cases-state (s .phase .state .0) (f .state);
+      status = status-kept s f;
+      download = download-kept s f;
+      upload = upload-kept s f;
+      after = after-kept s f;
+      range = rw (lt-ltb _ _ (f .range-some), le-leb _ _ (f .range-from), le-leb _ _ (f .range-to));
+      place = place-kept s f;
+      flags = rw (le-leb _ _ (f .choice), le-leb _ _ (f .flag));
+    })
+
+-- the sums aren't judged
+pub sums-free : (s : Session) (sums : Sums) → fitOf (withSums s sums) ≡ fitOf s
+unfolding fitOf
+sums-free s sums = refl
+
+-- the session of zeros is unfit
+pub zeros-unfit : fitOf zerosOf ≡ false
+unfolding fitOf zerosOf
+zeros-unfit = refl
+
+-- the fresh session of an allowed split is fit, whatever the part numbers and the sums
+pub fresh-fit : (b : Board) (sums : Sums) → splitRule b ≡ true → fitOf (freshOf b sums) ≡ true
+unfolding freshOf wholeUpload
+fresh-fit b sums e =
+    let h = end-after-start b e in
+    let len = (appEnd b - b .a .0) * blockSize in
+    kept-fit (freshOf b sums)
+    (record {
+      split = e;
+      state = refl;
+      status = refl;
+      download = refl;
+      upload = le-leb 0 (streamLength (wholeUpload b)) (omega arith);
+      after = refl;
+      range =
+          rw (
+            lt-ltb 0 len (omega arith),
+            le-leb (b .a .0) (b .a .0) (omega arith),
+            le-leb (startOf (b .a .0) + len) (startOf (appEnd b)) (omega arith),
+          );
+      place = refl;
+      flags = refl;
+    })
+
+-- the lengths of the two streams
+pub info-length : (u : Upload) → u .choice ≡ infoBytes → streamLength u ≡ infoLength
+unfolding streamLength
+info-length u h = rw h
+
+pub flash-length : (u : Upload) → u .choice ≡ flashStream → streamLength u ≡ prefixLength u + u .len
+unfolding streamLength
+flash-length u h = rw h
+
+pub prefix-most : (u : Upload) → prefixLength u ≤ 8
+prefix-most u = pick-most (eqb (u .«prefix») 1) (omega arith) (omega arith)
+
+-- a fit session's stream is short: the info bytes, or the prefix and a range of the application
+pub stream-most : (s : Session) → Fit s → streamLength (s .up) ≤ infoLength + startOf mostBlocks
+unfolding streamLength
+stream-most s f =
+    pick-most (eqb (s .up .choice) infoBytes) (omega arith)
+    (omega (arith, f .range-to, f .few-blocks, prefix-most (s .up), end-in-flash (s .board)))
