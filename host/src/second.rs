@@ -626,7 +626,6 @@ mod tests {
             self.call(&GETSTATUS, &[]).1
         }
 
-        /// The states are told apart by what the host can hear.
         fn now(&self) -> (u8, u8) {
             (self.session.state, self.session.status)
         }

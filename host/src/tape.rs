@@ -38,7 +38,7 @@ pub fn read_record(script: &[u8]) -> Option<(&[u8], &[u8], &[u8])> {
 pub fn first_flash(a: u8, b: u8) -> Vec<u8> {
     let byte = |i: u32| {
         let block = i / BLOCK;
-        match block >= u32::from(a) && block % 2 == 0 {
+        match block >= u32::from(a) && block.is_multiple_of(2) {
             true => ERASED,
             false => ((i * 7 + i / 256) % 251) as u8,
         }
