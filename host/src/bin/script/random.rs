@@ -165,8 +165,9 @@ fn any_status(dice: &mut Dice) -> Call {
 }
 
 fn upload(dice: &mut Dice) -> Call {
-    match dice.below(4) {
-        0 => request(0xA1, 2, 1 + dice.below(1_024)),
+    match dice.below(8) {
+        0 => request(0xA1, 2, 1_023),
+        1..=2 => request(0xA1, 2, 1 + dice.below(1_024)),
         _ => request(0xA1, 2, 1_024),
     }
 }
@@ -267,7 +268,7 @@ fn prog(dice: &mut Dice, session: &Session, flash: &[u8]) -> Vec<u8> {
     let run = erased_run(dice, session, flash);
     let (block, run) = match (dice.below(6), run) {
         (1.., Some(found)) => found,
-        _ => return ranged(dice, session, command::PROG),
+        _ => return prog_anywhere(dice, session),
     };
     let length = match dice.below(5) {
         0 => run + dice.below(2),
@@ -285,4 +286,15 @@ fn prog(dice: &mut Dice, session: &Session, flash: &[u8]) -> Vec<u8> {
         dice.bytes(first),
     ]
     .concat()
+}
+
+/// A PROG wherever it falls, at times also with more data than its length.
+fn prog_anywhere(dice: &mut Dice, session: &Session) -> Vec<u8> {
+    let mut data = ranged(dice, session, command::PROG);
+    if dice.below(2) == 0 {
+        data[4..8].copy_from_slice(&[1 + dice.below(8) as u8, 0, 0, 0]);
+    }
+    let first = dice.below(16);
+    data.extend(dice.bytes(first));
+    data
 }

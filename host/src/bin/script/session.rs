@@ -64,7 +64,8 @@ fn read_back(tape: &mut Tape) {
 }
 
 fn drop_a_download(tape: &mut Tape) {
-    erase(tape, 30, 2);
+    // ERASE must not read the high half of its count.
+    erase(tape, 30, 0xFFFF_0002);
     tape.command(command::PROG, 30, 2_048, &[]);
     tape.get_status();
     tape.dnload(&image(1_024));
@@ -79,9 +80,12 @@ fn drop_a_download(tape: &mut Tape) {
 }
 
 fn fault_and_clear(tape: &mut Tape) {
-    let faults: [(u8, u16, u32, usize); 8] = [
+    // Some are wrong twice over, and tell the order of the checks.
+    let faults: [(u8, u16, u32, usize); 10] = [
         (command::PROG, 20, 100, 1),
-        (command::PROG, 40, u32::MAX, 8),
+        (command::PROG, 20, 1, 2),
+        (command::ERASE, 15, 1, 1),
+        (command::PROG, 40, u32::MAX, 0),
         (command::PROG, 40, 4, 5),
         (command::READ, 64, 1, 0),
         (command::ERASE, 63, 2, 0),
@@ -121,9 +125,16 @@ fn choose_uploads(tape: &mut Tape) {
     tape.get_status();
     tape.upload(1_024);
     tape.upload(100);
+    tape.dnload(&[command::BIN, 2, 0, 0, 0, 0, 0, 0]);
+    tape.get_status();
+    tape.upload(1_023);
     tape.dnload(&[command::BIN, 0, 0, 0, 0, 0, 0, 0]);
     tape.get_status();
     tape.upload(9);
+    tape.dnload(&[command::BIN, 1, 0, 0, 0, 0, 0, 0]);
+    tape.get_status();
+    tape.command(command::INFO, 0, 0, &[]);
+    tape.get_status();
     tape.command(command::RESET, 0, 0, &[]);
     tape.get_state();
     tape.upload(1_024);
@@ -141,6 +152,7 @@ fn stall(tape: &mut Tape) {
         setup(0x21, 0, 0),
         setup(0xA1, 1, 8),
         [0xA1, 0x42, 0x24, 0, 0, 0, 4, 0],
+        [0xA1, 0x42, 0x23, 1, 0, 0, 4, 0],
         [0xA1, 5, 0, 0, 1, 0, 1, 0],
     ];
     for setup in setups {
