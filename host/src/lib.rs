@@ -1,0 +1,4 @@
+//! The second loader and what its two programs share.
+
+pub mod second;
+pub mod tape;
