@@ -9,6 +9,7 @@ use lib.Dec.{eqb, leb, ltb}
 use borrow.Author.Tests.{eqb-true, eqb-false, leb-true, ltb-true, eq-eqb, ne-eqb, le-leb, lt-ltb}
 use Rattle.flash.specs.Flash.{blockSize, startOf}
 use Rattle.sums.specs.declared.Sums.{Sums}
+use Rattle.sums.specs.Sum.{mostBlocks}
 use Rattle.session.specs.declared.Board.{Board}
 use Rattle.session.specs.declared.Phase.{Phase}
 use Rattle.session.specs.declared.Download.{Download}
@@ -16,7 +17,7 @@ use Rattle.session.specs.declared.Upload.{Upload}
 use Rattle.session.specs.declared.Session.{Session}
 use Rattle.session.specs.Codes.{idle, downloadSync, downloadIdle, manifestSync, uploadIdle, error}
 use Rattle.session.specs.Codes.{knownState, ok, errorStatus}
-use Rattle.session.specs.Session.{mostBlocks, appEnd, noDownload, downOf, withSums, wholeUpload, freshOf, zerosOf}
+use Rattle.session.specs.Session.{appEnd, noDownload, downOf, withSums, wholeUpload, freshOf, zerosOf}
 use Rattle.session.specs.Session.{flashStream, infoBytes, infoLength, prefixLength, streamLength}
 use Rattle.session.specs.Rules.{splitRule, stateRule, statusRule, running, downloadRule, uploadRule}
 use Rattle.session.specs.Rules.{afterRule, rangeRule, placeRule, flagsRule, fitOf}

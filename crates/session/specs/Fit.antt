@@ -4,9 +4,10 @@ use mathlib.Core.Path.{_≡_}
 use mathlib.Core.Bool.{Bool, true, false}
 use mathlib.Core.Logic.{_⊎_}
 use Rattle.flash.specs.Flash.{startOf}
+use Rattle.sums.specs.Sum.{mostBlocks}
 use Rattle.session.specs.declared.Session.{Session}
 use Rattle.session.specs.Codes.{idle, downloadSync, downloadIdle, manifestSync, uploadIdle, error, ok, errorStatus}
-use Rattle.session.specs.Session.{mostBlocks, appEnd, streamLength, noDownload}
+use Rattle.session.specs.Session.{appEnd, streamLength, noDownload}
 use Rattle.session.specs.Rules.{running}
 
 -- a number is one of the six states

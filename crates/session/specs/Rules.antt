@@ -46,12 +46,14 @@ afterRule phase =
     eqb (phase .after .0) idle
     || eqb (phase .state .0) downloadSync && eqb (phase .after .0) downloadIdle
 
+-- some bytes that begin at a block and lie wholly in the application
+abbrev pub inApplication : Board → ℕ → ℕ → Bool
+inApplication board first len =
+    ltb 0 len && leb (board .a .0) first && leb (startOf first + len) (startOf (appEnd board))
+
 -- the read range isn't empty and lies in the application
 abbrev pub rangeRule : Board → Upload → Bool
-rangeRule board up =
-    ltb 0 (up .len)
-    && leb (board .a .0) (up .first .0)
-    && leb (startOf (up .first .0) + up .len) (startOf (appEnd board))
+rangeRule board up = inApplication board (up .first .0) (up .len)
 
 -- a running download's place lies in the application, its end included, and so do the bytes that remain
 abbrev pub placeRule : Board → Phase → Download → Bool

@@ -7,16 +7,13 @@ use Rattle.flash.specs.declared.Block.{Block}
 use Rattle.flash.specs.declared.Addr.{Addr}
 use Rattle.flash.specs.Flash.{blockSize}
 use Rattle.sums.specs.declared.Sums.{Sums}
+use Rattle.sums.specs.Sum.{mostBlocks}
 use Rattle.session.specs.declared.Board.{Board}
 use Rattle.session.specs.declared.Phase.{Phase}
 use Rattle.session.specs.declared.Download.{Download}
 use Rattle.session.specs.declared.Upload.{Upload}
 use Rattle.session.specs.declared.Session.{Session}
 use Rattle.session.specs.Codes.{idle, ok}
-
--- the most blocks that a flash has
-abbrev pub mostBlocks : ℕ
-mostBlocks = 64
 
 -- A and B that a flash can have: 1 ≤ A < B ≤ most blocks
 abbrev pub allowedSplit : ℕ → ℕ → Bool

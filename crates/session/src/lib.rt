@@ -3,16 +3,14 @@
 use flash::Addr;
 use flash::BLOCK;
 use flash::Block;
+use sums::MOST;
 use sums::Sums;
 ghost use mathlib.Core.Path.{_≡_};
 ghost use mathlib.Core.Bool.{true};
 ghost use Rattle.flash.specs.Flash.{startOf};
 ghost use Rattle.session.specs.Session.{allowedSplit, boardOf, appEnd, streamLength, freshOf, zerosOf};
 ghost use Rattle.session.specs.Rules.{stateRule, statusRule, running, downloadRule, uploadRule};
-ghost use Rattle.session.specs.Rules.{afterRule, rangeRule, placeRule, flagsRule, fitOf};
-
-// The most blocks that a flash has.
-const MOST: u32 = 64;
+ghost use Rattle.session.specs.Rules.{afterRule, inApplication, rangeRule, placeRule, flagsRule, fitOf};
 
 // The bytes of the prefix, and how many the info bytes are.
 pub const PREFIX_LENGTH: u64 = 8;
@@ -110,7 +108,7 @@ pub struct Session {
 pub fn allowed_split(a: Block, b: Block) -> bool
     ensures { λ r. ⌜ r ≡ allowedSplit (a .0) (b .0) ⌝ }
 {
-    (1 <= a.0) & (a.0 < b.0) & (b.0 <= MOST)
+    (1 <= a.0) & (a.0 < b.0) & (b.0 as usize <= MOST)
 }
 
 // The block after the application's last.
@@ -206,7 +204,7 @@ pub fn zeros() -> Session
             place: 0,
         },
         sums: Sums {
-            block: [0; MOST as usize],
+            block: [0; MOST],
             whole: 0,
         },
     }
@@ -263,11 +261,18 @@ fn after_rule(phase: Phase) -> bool
         | ((phase.state.0 == State::DOWNLOAD_SYNC) & (phase.after.0 == State::DOWNLOAD_IDLE))
 }
 
+// Whether `len` bytes from block `first` on are some and lie in the application; 64 bits hold the sum at any length.
+pub fn in_application(board: Board, first: Block, len: u32) -> bool
+    ensures { λ r. ⌜ r ≡ inApplication board (first .0) len ⌝ }
+{
+    let end = start(app_end(board));
+    (0 < len) & (board.a.0 <= first.0) & (start(first) + (len as u64) <= end)
+}
+
 fn range_rule(board: Board, up: Upload) -> bool
     ensures { λ r. ⌜ r ≡ rangeRule board up ⌝ }
 {
-    let end = start(app_end(board));
-    (0 < up.len) & (board.a.0 <= up.first.0) & (start(up.first) + (up.len as u64) <= end)
+    in_application(board, up.first, up.len)
 }
 
 fn place_rule(board: Board, phase: Phase, down: Download) -> bool

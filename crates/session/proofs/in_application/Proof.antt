@@ -1,7 +1,7 @@
 -- The places compared are those that `start` and `app_end` answer.
 use borrow.Author.Needs.{needs}
-use Rattle.session.proofs.range_rule.Statement.{statement}
-use Rattle.session.proofs.range_rule.Tie as tie
+use Rattle.session.proofs.in_application.Statement.{statement}
+use Rattle.session.proofs.in_application.Tie as tie
 
 app-end-requires : tie.Need-app-end-requires
 app-end-requires c κs = search needs
@@ -12,16 +12,13 @@ start-requires c κs = search needs
 start-requires-2 : tie.Need-start-requires-2
 start-requires-2 c κs = search needs
 
-cast-result : tie.Need-cast-result
-cast-result c = search needs
-
 add-result : tie.Need-add-result
 add-result c = search needs
 
 returns : tie.Need-returns
 returns c = cc
 
-pub range-rule-spec : {M : Type 1} → statement M
-range-rule-spec =
+pub in-application-spec : {M : Type 1} → statement M
+in-application-spec =
     tie.close
-    (tie.spec app-end-requires start-requires start-requires-2 cast-result add-result returns)
+    (tie.spec app-end-requires start-requires start-requires-2 add-result returns)
