@@ -1,5 +1,5 @@
 -- Flash as a list of bytes, and what erasing, programming and searching leave of it or find in it.
-use Prim.Native.Nat.{ℕ, _+_, _*_, _^_, _≤_, _<_}
+use Prim.Native.Nat.{ℕ, _+_, _-_, _*_, _/_, _^_, _≤_, _<_}
 use mathlib.Core.Bool.{Bool, cond}
 use mathlib.Core.List.{List, [], _∷_, _++_}
 use lib.Dec.{ltb, eqb}
@@ -22,6 +22,14 @@ startOf block = block * blockSize
 -- the checked conversion: a block whose start has a 32-bit address is there, any other is out of reach
 abbrev pub reachOf : ℕ → Reach
 reachOf block = cond (ltb (startOf block) (2 ^ 32)) (Reach.At (record { 0 = startOf block })) Reach.Past
+
+-- the block that holds the byte at an address
+abbrev pub holderOf : ℕ → ℕ
+holderOf at = at / blockSize
+
+-- the first block that starts at an address or after it
+abbrev pub nextStart : ℕ → ℕ
+nextStart at = (at + (blockSize - 1)) / blockSize
 
 -- n bytes from address at on lie in flash, and each has a 32-bit address
 pub record Within (flash : List ℕ) (at n : ℕ) : Type 0 where

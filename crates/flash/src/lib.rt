@@ -3,7 +3,7 @@
 ghost use Prim.Native.Nat.{_*_, _<_};
 ghost use mathlib.Core.Path.{_≡_};
 ghost use lib.ListN.{length, set};
-ghost use Rattle.flash.specs.Flash.{reachOf, startOf, Within, blank, spliced, erased, range, firstIn, searched};
+ghost use Rattle.flash.specs.Flash.{reachOf, startOf, holderOf, nextStart, Within, blank, spliced, erased, range, firstIn, searched};
 
 // The bytes of a block.
 pub const BLOCK: u32 = 1024;
@@ -42,6 +42,23 @@ impl Block {
         } else {
             Reach::Past
         }
+    }
+}
+
+impl Addr {
+    // The block that holds the byte. A quotient can't wrap, so there is nothing to check.
+    pub fn holder(self) -> Block
+        ensures { λ r. ⌜ r .0 ≡ holderOf (self .0) ⌝ }
+    {
+        Block(self.0 / BLOCK)
+    }
+
+    // The first block that starts here or later, summed so that it can't wrap.
+    pub fn next_start(self) -> Block
+        ensures { λ r. ⌜ r .0 ≡ nextStart (self .0) ⌝ }
+    {
+        let at = self.0;
+        Block(at / BLOCK + (at % BLOCK + (BLOCK - 1)) / BLOCK)
     }
 }
 
