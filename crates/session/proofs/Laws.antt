@@ -4,7 +4,7 @@ use native.Mathlib.Decide.{ℕ-discrete}
 use native.Mathlib.Omega.{arith}
 use mathlib.Core.Path.{_≡_, refl, ap, ap₂}
 use mathlib.Core.Logic.{_⊎_, inl, inr, ⊎-elim}
-use mathlib.Core.Bool.{Bool, true, false, not, _&&_, _||_}
+use mathlib.Core.Bool.{Bool, true, false, not, _&&_, _||_, false≢true}
 use lib.Dec.{eqb, leb, ltb}
 use borrow.Author.Tests.{eqb-true, eqb-false, leb-true, ltb-true, eq-eqb, ne-eqb, le-leb, lt-ltb}
 use Rattle.flash.specs.Flash.{blockSize, startOf}
@@ -71,40 +71,71 @@ unfolding fitOf
 kept-fit s k =
     rw (k .split, k .state, k .status, k .download, k .upload, k .after, k .range, k .place, k .flags)
 
--- a known state is one of six
-pub state-cases : (n : ℕ) → knownState n ≡ true → OneOfSix n
-state-cases n e =
+-- a number that is none of the six states
+pub record NoState (n : ℕ) : Type 0 where
+  pub not-idle : eqb n idle ≡ false
+  pub not-download-sync : eqb n downloadSync ≡ false
+  pub not-download-idle : eqb n downloadIdle ≡ false
+  pub not-manifest-sync : eqb n manifestSync ≡ false
+  pub not-upload-idle : eqb n uploadIdle ≡ false
+  pub not-error : eqb n error ≡ false
+
+-- every number is one of the six states or none of them
+pub which-state : (n : ℕ) → OneOfSix n ⊎ NoState n
+which-state n =
     elim (ℕ-discrete n idle) [
-      | yes p ↦ is-idle p
+      | yes p ↦ inl (is-idle p)
       | no n1 ↦
           elim (ℕ-discrete n downloadSync) [
-            | yes p ↦ is-download-sync p
+            | yes p ↦ inl (is-download-sync p)
             | no n2 ↦
                 elim (ℕ-discrete n downloadIdle) [
-                  | yes p ↦ is-download-idle p
+                  | yes p ↦ inl (is-download-idle p)
                   | no n3 ↦
                       elim (ℕ-discrete n manifestSync) [
-                        | yes p ↦ is-manifest-sync p
+                        | yes p ↦ inl (is-manifest-sync p)
                         | no n4 ↦
                             elim (ℕ-discrete n uploadIdle) [
-                              | yes p ↦ is-upload-idle p
+                              | yes p ↦ inl (is-upload-idle p)
                               | no n5 ↦
-                                  is-error
-                                  (eqb-true n error
-                                  (rw (ne-eqb _ _ n1, ne-eqb _ _ n2, ne-eqb _ _ n3, ne-eqb _ _ n4, ne-eqb _ _ n5) at e))
+                                  elim (ℕ-discrete n error) [
+                                    | yes p ↦ inl (is-error p)
+                                    | no n6 ↦
+                                        inr
+                                        (record {
+                                          not-idle = ne-eqb _ _ n1;
+                                          not-download-sync = ne-eqb _ _ n2;
+                                          not-download-idle = ne-eqb _ _ n3;
+                                          not-manifest-sync = ne-eqb _ _ n4;
+                                          not-upload-idle = ne-eqb _ _ n5;
+                                          not-error = ne-eqb _ _ n6;
+                                        })
+                                  ]
                             ]
                       ]
                 ]
           ]
     ]
 
+-- what holds at each of the six states holds at a number that is one of them
+pub at-six : (P : ℕ → Type 0) → P 2 → P 3 → P 5 → P 6 → P 9 → P 10 → (n : ℕ) → OneOfSix n → P n
+at-six P p2 p3 p5 p6 p9 p10 n (is-idle e) = rw e p2
+at-six P p2 p3 p5 p6 p9 p10 n (is-download-sync e) = rw e p3
+at-six P p2 p3 p5 p6 p9 p10 n (is-download-idle e) = rw e p5
+at-six P p2 p3 p5 p6 p9 p10 n (is-manifest-sync e) = rw e p6
+at-six P p2 p3 p5 p6 p9 p10 n (is-upload-idle e) = rw e p9
+at-six P p2 p3 p5 p6 p9 p10 n (is-error e) = rw e p10
+
+-- a known state is one of six
+pub no-state : (n : ℕ) → NoState n → knownState n ≡ false
+no-state n k =
+    rw (k .not-idle, k .not-download-sync, k .not-download-idle, k .not-manifest-sync, k .not-upload-idle, k .not-error)
+
+pub state-cases : (n : ℕ) → knownState n ≡ true → OneOfSix n
+state-cases n e = ⊎-elim (λ k. k) (λ k. absurd (false≢true (rw (no-state n k) at e))) (which-state n)
+
 pub cases-state : (n : ℕ) → OneOfSix n → knownState n ≡ true
-cases-state n (is-idle p) = rw p
-cases-state n (is-download-sync p) = rw p
-cases-state n (is-download-idle p) = rw p
-cases-state n (is-manifest-sync p) = rw p
-cases-state n (is-upload-idle p) = rw p
-cases-state n (is-error p) = rw p
+cases-state = at-six (λ n. knownState n ≡ true) refl refl refl refl refl refl
 
 -- what the rule of A and B says, and with it of the application's end
 module _ (b : Board) where

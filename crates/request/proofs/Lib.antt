@@ -1,0 +1,2 @@
+-- Laws about requests, for the floors above.
+pub mod Laws
