@@ -19,9 +19,9 @@ use Rattle.session.specs.Codes.{idle, downloadSync, downloadIdle, manife
 use Rattle.session.specs.Codes.{knownState, ok, errorStatus}
 use Rattle.session.specs.Session.{appEnd, noDownload, downOf, withSums, wholeUpload, freshOf, zerosOf}
 use Rattle.session.specs.Session.{flashStream, infoBytes, infoLength, prefixLength, streamLength}
-use Rattle.session.specs.Rules.{splitRule, stateRule, statusRule, running, downloadRule, uploadRule}
+use Rattle.session.specs.Rules.{inApplication, splitRule, stateRule, statusRule, running, downloadRule, uploadRule}
 use Rattle.session.specs.Rules.{afterRule, rangeRule, placeRule, flagsRule, fitOf}
-use Rattle.session.specs.Fit.{Fit, OneOfSix, is-idle, is-download-sync, is-download-idle, is-manifest-sync}
+use Rattle.session.specs.Fit.{Inside, Fit, OneOfSix, is-idle, is-download-sync, is-download-idle, is-manifest-sync}
 use Rattle.session.specs.Fit.{is-upload-idle, is-error}
 use Rattle.session.proofs.Tests.{left-of, right-of, either, unless, or-unless, where-true, or-where, pick-most}
 
@@ -194,6 +194,19 @@ module _ (p : Phase) where
       let z = unless (running p) (no-place && none-left) e h in
       ap₂ downOf (eqb-true _ _ (left-of no-place none-left z)) (eqb-true _ _ (right-of no-place none-left z))
 
+-- what it says that a range lies in the application
+pub inside-facts : (b : Board) (first len : ℕ) → inApplication b first len ≡ true → Inside b first len
+inside-facts b first len e =
+    let some = ltb 0 len in
+    let begins = leb (b .a .0) first in
+    let ends = leb (startOf first + len) (startOf (appEnd b)) in
+    let l = left-of (some && begins) ends e in
+    record {
+      some = ltb-true _ _ (left-of some begins l);
+      from = leb-true _ _ (right-of some begins l);
+      to = leb-true _ _ (right-of (some && begins) ends e);
+    }
+
 -- what the rules of the upload say
 module _ (b : Board) (p : Phase) (u : Upload) where
   UploadFacts : Type 0
@@ -207,22 +220,6 @@ module _ (b : Board) (p : Phase) (u : Upload) where
       let short = leb (u .place) (streamLength u) in (
         λ n. eqb-true _ _ (unless on none (left-of (on || none) short e) (ne-eqb _ _ n)),
         leb-true _ _ (right-of (on || none) short e),
-      )
-
-  RangeFacts : Type 0
-  RangeFacts =
-      (0 < u .len) × (b .a .0 ≤ u .first .0) × (startOf (u .first .0) + u .len ≤ startOf (appEnd b))
-
-  range-facts : rangeRule b u ≡ true → RangeFacts
-  unfolding RangeFacts
-  range-facts e =
-      let some = ltb 0 (u .len) in
-      let begins = leb (b .a .0) (u .first .0) in
-      let ends = leb (startOf (u .first .0) + u .len) (startOf (appEnd b)) in
-      let l = left-of (some && begins) ends e in (
-        ltb-true _ _ (left-of some begins l),
-        leb-true _ _ (right-of some begins l),
-        leb-true _ _ (right-of (some && begins) ends e),
       )
 
   flags-facts : flagsRule u ≡ true → (u .choice ≤ 1) × (u .«prefix» ≤ 1)
@@ -254,13 +251,13 @@ module _ (b : Board) (p : Phase) (d : Download) where
 
 -- a fit session has all the facts
 pub fit-facts : (s : Session) → fitOf s ≡ true → Fit s
-unfolding StatusFacts UploadFacts RangeFacts PlaceFacts
+unfolding StatusFacts UploadFacts PlaceFacts
 fit-facts s e =
     let k = fit-kept s e in
     let split = split-facts (s .board) (k .split) in
     let status = status-facts (s .phase) (k .status) in
     let upload = upload-facts (s .board) (s .phase) (s .up) (k .upload) in
-    let range = range-facts (s .board) (s .phase) (s .up) (k .range) in
+    let range = inside-facts (s .board) (s .up .first .0) (s .up .len) (k .range) in
     let place = place-facts (s .board) (s .phase) (s .down) (k .place) in
     let flags = flags-facts (s .board) (s .phase) (s .up) (k .flags) in
     record {
@@ -275,9 +272,9 @@ fit-facts s e =
       in-stream = upload .1;
       after-sync = λ h. after-sync (s .phase) (k .after);
       after-others = after-others (s .phase) (k .after);
-      range-some = range .0;
-      range-from = range .1;
-      range-to = range .2;
+      range-some = range .some;
+      range-from = range .from;
+      range-to = range .to;
       place-from = λ r. place r .0;
       place-to = λ r. place r .1;
       left-to = λ r. place r .2;

@@ -5,6 +5,7 @@ use mathlib.Core.Bool.{Bool, true, false}
 use mathlib.Core.Logic.{_⊎_}
 use Rattle.flash.specs.Flash.{startOf}
 use Rattle.sums.specs.Sum.{mostBlocks}
+use Rattle.session.specs.declared.Board.{Board}
 use Rattle.session.specs.declared.Session.{Session}
 use Rattle.session.specs.Codes.{idle, downloadSync, downloadIdle, manifestSync, uploadIdle, error, ok, errorStatus}
 use Rattle.session.specs.Session.{appEnd, streamLength, noDownload}
@@ -18,6 +19,12 @@ pub data OneOfSix (n : ℕ) : Type 0 where
   is-manifest-sync : n ≡ manifestSync → OneOfSix n
   is-upload-idle : n ≡ uploadIdle → OneOfSix n
   is-error : n ≡ error → OneOfSix n
+
+-- some bytes that begin at a block and lie in the application
+pub record Inside (board : Board) (first len : ℕ) : Type 0 where
+  pub some : 0 < len
+  pub from : board .a .0 ≤ first
+  pub to : startOf first + len ≤ startOf (appEnd board)
 
 -- the facts, in the order of the rules
 pub record Fit (s : Session) : Type 0 where
