@@ -1,15 +1,15 @@
 -- Laws of the requests: a request has its form, and the table says what the states allow.
-use Prim.Native.Nat.{ℕ, _+_, _≤_, _<_}
+use Prim.Native.Nat.{ℕ, _≤_, _<_}
 use native.Mathlib.Omega.{arith}
 use native.Mathlib.Decide.{ℕ-discrete}
-use mathlib.Core.Path.{_≡_, refl, sym, ap, _∙_}
-use mathlib.Core.Logic.{_⊎_, ⊎-elim}
+use mathlib.Core.Path.{_≡_, refl, sym}
+use mathlib.Core.Logic.{⊎-elim}
 use mathlib.Core.Bool.{Bool, true, false, not, cond, _&&_, _||_, and-true, or-false}
-use mathlib.Core.List.{List, []}
+use mathlib.Core.List.{List, [], _∷_, map}
 use lib.Dec.{eqb, leb}
 use lib.ListN.{getD}
 use borrow.Author.Tests.{eqb-true, leb-true, ne-eqb}
-use Rattle.session.specs.Codes.{idle, downloadIdle}
+use Rattle.session.specs.Codes.{idle, downloadSync, downloadIdle, manifestSync, uploadIdle, error}
 use Rattle.session.specs.Fit.{OneOfSix}
 use Rattle.session.proofs.Tests.{left-of, right-of}
 use Rattle.session.proofs.Laws.{NoState, no-state, which-state, at-six}
@@ -18,7 +18,7 @@ use Rattle.request.specs.declared.Request.{Request}
 use Rattle.request.specs.declared.Request.the-variants.{Dnload, Upload, GetStatus, ClrStatus}
 use Rattle.request.specs.declared.Request.the-variants.{GetState, Abort, Query, Nothing}
 use Rattle.request.specs.Request.{setupOf, hasForm, inForm, formOf, requestOf, wLength, dataAsked}
-use Rattle.request.specs.Request.{allowedOf, allowedTable, rowOf, columnOf}
+use Rattle.request.specs.Request.{allowedOf, rowOf, columnOf}
 
 -- a pick that a callee's answer made
 pub told-yes : {A : Type 0} (r t : Bool) (x y : A) → r ≡ t → r ≡ true → x ≡ cond t x y
@@ -116,7 +116,13 @@ unknown Abort n k = rw (no-state n k)
 unknown Query n k = no-state n k
 unknown Nothing n k = refl
 
--- the table's rule, at all of its entries
+-- the table, computed: of requests that bring a byte, by states
+unfoldable pub allowedTable : List (List Bool)
+allowedTable =
+    map (λ r. map (allowedOf r 1) (idle ∷ downloadSync ∷ downloadIdle ∷ manifestSync ∷ uploadIdle ∷ error ∷ []))
+    (Dnload ∷ Upload ∷ GetStatus ∷ ClrStatus ∷ GetState ∷ Abort ∷ Query ∷ [])
+
+-- its rule, at all of its entries
 entry : Request → ℕ → Bool
 entry r n = getD (getD allowedTable (rowOf r) []) (columnOf n) false
 
@@ -169,7 +175,7 @@ pub not-empty :
     (r : Request) (bytes n : ℕ)
     → (allowedOf r 1 n && not (eqb (rowOf r) 0 && eqb n idle && eqb bytes 0)) ≡ allowedOf r bytes n
 unfolding allowedOf
-not-empty Dnload bytes n = unfold allowedOf in dnload-empty bytes n
+not-empty Dnload bytes n = dnload-empty bytes n
 not-empty Upload bytes n = and-true _
 not-empty GetStatus bytes n = and-true _
 not-empty ClrStatus bytes n = and-true _

@@ -1,7 +1,7 @@
 -- The requests: how the setup is read, the form of each, and the states that allow it.
 use Prim.Native.Nat.{ℕ, _+_, _*_}
 use mathlib.Core.Bool.{Bool, true, false, not, cond, _&&_, _||_}
-use mathlib.Core.List.{List, [], _∷_, map}
+use mathlib.Core.List.{List}
 use lib.Dec.{eqb, leb}
 use lib.ListN.{length, getD}
 use Rattle.session.specs.Codes.{idle, downloadSync, downloadIdle, manifestSync, uploadIdle, error, knownState}
@@ -36,7 +36,7 @@ hasForm s kind number least most =
     && leb least (s .length)
     && leb (s .length) most
 
--- the form table: type, number, wLength; wValue is ignored except in the query
+-- the form table: type, number, wLength; wValue is ignored except in the query; no request needs no form
 abbrev pub inForm : Request → Setup → Bool
 inForm Dnload s = hasForm s 0x21 1 0 1024
 inForm Upload s = hasForm s 0xA1 2 1 1024
@@ -80,12 +80,6 @@ allowedOf GetState bytes state = knownState state
 allowedOf Abort bytes state = knownState state && not (eqb state error)
 allowedOf Query bytes state = knownState state
 allowedOf Nothing bytes state = false
-
--- the table of requests that bring a byte, by states: what the code's table is tested against
-unfoldable pub allowedTable : List (List Bool)
-allowedTable =
-    map (λ r. map (allowedOf r 1) (idle ∷ downloadSync ∷ downloadIdle ∷ manifestSync ∷ uploadIdle ∷ error ∷ []))
-    (Dnload ∷ Upload ∷ GetStatus ∷ ClrStatus ∷ GetState ∷ Abort ∷ Query ∷ [])
 
 -- the table's rows, in the order of the form table; 7 for no request
 abbrev pub rowOf : Request → ℕ

@@ -1,6 +1,6 @@
 -- The code's table is the computed one, whose entries are tested once in the laws.
-use Rattle.request.proofs.Laws.{past-rows, past-columns, in-table}
-use Rattle.request.specs.Request.{allowedOf, allowedTable}
+use Rattle.request.proofs.Laws.{allowedTable, past-rows, past-columns, in-table}
+use Rattle.request.specs.Request.{allowedOf}
 use borrow.Author.Needs.{needs}
 use Rattle.request.proofs.in_table.Statement.{statement}
 use Rattle.request.proofs.in_table.Tie as tie

@@ -7,7 +7,7 @@ has-form-requires : tie.Need-has-form-requires
 has-form-requires c κs = search needs
 
 returns : tie.Need-returns
-returns c = cc
+returns c = rw (c .before .has-form .ensures)
 
 pub is-query-spec : {M : Type 1} → statement M
 is-query-spec = tie.close (tie.spec has-form-requires returns)

@@ -7,7 +7,7 @@ runs-requires : tie.Need-runs-requires
 runs-requires c κs = search needs
 
 returns : tie.Need-returns
-returns c = cc
+returns c = rw (c .before .before .runs .ensures)
 
 pub download-rule-spec : {M : Type 1} → statement M
 download-rule-spec = tie.close (tie.spec runs-requires returns)

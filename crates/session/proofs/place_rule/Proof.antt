@@ -25,7 +25,14 @@ add-result : tie.Need-add-result
 add-result c = search needs
 
 returns : tie.Need-returns
-returns c = cc
+returns c =
+    let at-end = c .before .before .before .before in
+    rw (
+      c .before .before .runs .ensures,
+      c .before .start2 .ensures,
+      at-end .start .ensures,
+      at-end .before .app-end .ensures,
+    )
 
 pub place-rule-spec : {M : Type 1} → statement M
 place-rule-spec =

@@ -23,7 +23,7 @@ mul-len c =
 
 returns : tie.Need-returns
 unfolding freshOf wholeUpload
-returns c = cc
+returns c = rw (c .before .before .app-end .ensures)
 
 pub fresh-spec : {M : Type 1} → statement M
 fresh-spec = tie.close (tie.spec app-end-requires sub-len mul-len returns)
