@@ -17,8 +17,8 @@ add-result c = search needs
 
 returns : tie.Need-returns
 returns c =
-    let at-end = c .before .before .before .before .before in
-    rw (c .before .start2 .ensures, at-end .start .ensures, at-end .before .app-end .ensures)
+    let at-end = c .before .before .before in
+    rw (c .start2 .ensures, at-end .start .ensures, at-end .before .app-end .ensures)
 
 pub in-application-spec : {M : Type 1} → statement M
 in-application-spec =
