@@ -1,0 +1,3 @@
+-- Laws of a ready session.
+pub mod Picks
+pub mod Laws

@@ -1,0 +1,3 @@
+-- What a DNLOAD does.
+pub mod Ready
+pub mod Download
