@@ -14,7 +14,9 @@ use Rattle.flash.proofs.Laws.{length-range}
 use Rattle.sums.specs.Sum.{mostBlocks}
 use Rattle.session.specs.declared.Board.{Board}
 use Rattle.session.specs.declared.Upload.{Upload}
+use Rattle.session.specs.declared.Session.{Session}
 use Rattle.session.specs.Session.{boardOf, appEnd, upOf, flashStream, infoBytes, infoLength, prefixLength, streamLength}
+use Rattle.session.specs.Fit.{Fit}
 use Rattle.session.proofs.Laws.{end-in-flash}
 use Rattle.request.specs.Request.{wordAt}
 use Rattle.stream.specs.Stream.{prog, headerOf, prefixOf, infoStream, streamOf, nextOf, Sendable}
@@ -121,12 +123,26 @@ module _ (up : Upload) where
   header-len h = four-bytes (up .len) h
 
 -- what can be sent lies in flash, at 32-bit addresses
-module _ (board : Board) (up : Upload) (flash : List ℕ) (place asked room : ℕ) (s : Sendable board up flash place asked room) where
+module _ {board : Board} {up : Upload} {flash : List ℕ} {place asked room : ℕ} (s : Sendable board up flash place asked room) where
   pub end-near : startOf (appEnd board) ≤ startOf mostBlocks
   end-near = omega (arith, s .few-blocks, end-in-flash board)
 
   pub range-within : Within flash (startOf (up .first .0)) (up .len)
   range-within = let e = end-near in record { inside = omega arith; addressed = omega arith }
+
+-- a fit session's stream can be sent from any place in it, where the flash has B blocks
+pub fit-sendable :
+    (s : Session) (flash : List ℕ) (place asked room : ℕ) → Fit s → length flash ≡ startOf (s .board .b .0)
+    → place ≤ streamLength (s .up) → asked ≤ room → Sendable (s .board) (s .up) flash place asked room
+fit-sendable s flash place asked room f e h k =
+    record {
+      few-blocks = f .few-blocks;
+      range-from = f .range-from;
+      range-to = f .range-to;
+      in-flash = omega (arith, e, end-in-flash (s .board));
+      in-stream = h;
+      in-room = k;
+    }
 
 -- desk example 13: the prefix of block 16, length 2,000, and the lengths of the two answers
 pub prefix-example :

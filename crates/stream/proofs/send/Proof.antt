@@ -13,7 +13,7 @@ send-info-requires : tie.Need-send-info-requires
 send-info-requires c κs =
     let t = c .before in
     let i = t .before .before .before .before in
-    let near = end-near _ _ _ _ _ _ (i .pre) in
+    let near = end-near (i .pre) in
     let long = info-length (i .args .up) (t .if1 .taken) in
     omega (arith, i .pre)
 
@@ -21,8 +21,8 @@ send-range-requires : tie.Need-send-range-requires
 send-range-requires c κs =
     let t = c .before in
     let i = t .before .before .before .before in
-    let within = range-within _ _ _ _ _ _ (i .pre) in
-    let near = end-near _ _ _ _ _ _ (i .pre) in
+    let within = range-within (i .pre) in
+    let near = end-near (i .pre) in
     let few = prefix-most (i .args .up) in
     let long = flash-chosen-length (i .args .up) (t .if1 .left) in
     (within, omega (arith, i .pre))
