@@ -1,0 +1,2 @@
+-- What an upload reads.
+pub mod Stream
