@@ -1,0 +1,1 @@
+-- What the user is promised: the proofs.

@@ -1,0 +1,2 @@
+-- What the user is promised: the statements.
+pub mod Calls

@@ -1,0 +1,2 @@
+-- Laws of the loader's parts.
+pub mod Laws

@@ -1,0 +1,191 @@
+-- Each arm by its request. Assumes nothing.
+use mathlib.Core.Path.{sym, ap, _∙_}
+use Rattle.loader.proofs.Laws.{allowed-loading}
+use Rattle.loader.specs.Step.{served, withReply, withFlash}
+use Rattle.request.specs.Request.{allowedOf}
+use Rattle.request.specs.declared.Request.{Request}
+use Rattle.moves.specs.Answers.{Done, Replied, leaves}
+use Rattle.moves.specs.Moves.{takenOf}
+use Rattle.moves.specs.declared.Outcome.{Outcome}
+use borrow.Author.Needs.{needs}
+use Rattle.loader.proofs.serve.Statement.{statement}
+use Rattle.loader.proofs.serve.Tie as tie
+
+enum-told : tie.Need-enum-told
+enum-told c = search needs
+
+dnload-requires : tie.Need-dnload-requires
+dnload-requires c κs =
+    let t = c .before in
+    let s = t .before .before .before .before .before in
+    (s .pre .prepared, allowed-loading _ (s .args .asked) (ap (λ (q : Request). allowedOf q (s .args .asked) (s .args .s .phase .state .0)) (sym (t .enum-told .given .1)) ∙ s .pre .permitted))
+
+enum-told-2 : tie.Need-enum-told-2
+enum-told-2 c = search needs
+
+upload-requires : tie.Need-upload-requires
+upload-requires c κs =
+    let t = c .before .before in
+    let s = t .before .before .before .before .before in
+    (s .pre .prepared, (s .pre .few (t .enum-told2 .given .1), s .pre .roomy))
+
+enum-told-3 : tie.Need-enum-told-3
+enum-told-3 c = search needs
+
+getstatus-requires : tie.Need-getstatus-requires
+getstatus-requires c κs = search needs
+
+enum-told-4 : tie.Need-enum-told-4
+enum-told-4 c = search needs
+
+idle-requires : tie.Need-idle-requires
+idle-requires c κs = search needs
+
+taken-requires : tie.Need-taken-requires
+taken-requires c κs = search needs
+
+enum-told-5 : tie.Need-enum-told-5
+enum-told-5 c = search needs
+
+getstate-requires : tie.Need-getstate-requires
+getstate-requires c κs = search needs
+
+enum-told-6 : tie.Need-enum-told-6
+enum-told-6 c = search needs
+
+idle-requires-2 : tie.Need-idle-requires-2
+idle-requires-2 c κs = search needs
+
+taken-requires-2 : tie.Need-taken-requires-2
+taken-requires-2 c κs = search needs
+
+enum-told-7 : tie.Need-enum-told-7
+enum-told-7 c = search needs
+
+query-requires : tie.Need-query-requires
+query-requires c κs = search needs
+
+enum-told-8 : tie.Need-enum-told-8
+enum-told-8 c = search needs
+
+stalled-requires : tie.Need-stalled-requires
+stalled-requires c κs = search needs
+
+same-length : tie.Need-same-length
+same-length c = search needs
+
+returns : tie.Need-returns
+unfolding served
+returns c =
+    let t = c .before .before .before .before in
+    let s = t .before .before .before .before .before in
+    ap (λ (q : Done). withReply q (s .args .reply .now)) (c .before .before .dnload .ensures)
+    ∙ sym (ap (λ (q : Request). served q (s .args .s) (s .args .flash .now) (s .args .asked) (s .args .d .now) (s .args .reply .now)) (t .enum-told .given .1))
+
+same-length-2 : tie.Need-same-length-2
+same-length-2 c = search needs
+
+same-length-3 : tie.Need-same-length-3
+same-length-3 c = search needs
+
+returns-2 : tie.Need-returns-2
+unfolding served
+returns-2 c =
+    let t = c .before .before .before .before .before in
+    let s = t .before .before .before .before .before in
+    ap (λ (q : Replied). withFlash q (s .args .flash .now)) (c .before .before .upload .ensures)
+    ∙ sym (ap (λ (q : Request). served q (s .args .s) (s .args .flash .now) (s .args .asked) (s .args .d .now) (s .args .reply .now)) (t .enum-told2 .given .1))
+
+same-length-4 : tie.Need-same-length-4
+same-length-4 c = search needs
+
+returns-3 : tie.Need-returns-3
+unfolding served
+returns-3 c =
+    let t = c .before .before .before .before in
+    let s = t .before .before .before .before .before in
+    ap (λ (q : Replied). withFlash q (s .args .flash .now)) (c .before .before .getstatus .ensures)
+    ∙ sym (ap (λ (q : Request). served q (s .args .s) (s .args .flash .now) (s .args .asked) (s .args .d .now) (s .args .reply .now)) (t .enum-told3 .given .1))
+
+returns-4 : tie.Need-returns-4
+unfolding served
+returns-4 c =
+    let t = c .before .before in
+    let s = t .before .before .before .before .before in
+    ap (λ (q : Outcome). leaves q (s .args .flash .now) (s .args .reply .now)) (c .taken .ensures ∙ ap takenOf (c .before .idle .ensures))
+    ∙ sym (ap (λ (q : Request). served q (s .args .s) (s .args .flash .now) (s .args .asked) (s .args .d .now) (s .args .reply .now)) (t .enum-told4 .given .1))
+
+same-length-5 : tie.Need-same-length-5
+same-length-5 c = search needs
+
+returns-5 : tie.Need-returns-5
+unfolding served
+returns-5 c =
+    let t = c .before .before .before .before in
+    let s = t .before .before .before .before .before in
+    ap (λ (q : Replied). withFlash q (s .args .flash .now)) (c .before .before .getstate .ensures)
+    ∙ sym (ap (λ (q : Request). served q (s .args .s) (s .args .flash .now) (s .args .asked) (s .args .d .now) (s .args .reply .now)) (t .enum-told5 .given .1))
+
+returns-6 : tie.Need-returns-6
+unfolding served
+returns-6 c =
+    let t = c .before .before in
+    let s = t .before .before .before .before .before in
+    ap (λ (q : Outcome). leaves q (s .args .flash .now) (s .args .reply .now)) (c .taken2 .ensures ∙ ap takenOf (c .before .idle2 .ensures))
+    ∙ sym (ap (λ (q : Request). served q (s .args .s) (s .args .flash .now) (s .args .asked) (s .args .d .now) (s .args .reply .now)) (t .enum-told6 .given .1))
+
+same-length-6 : tie.Need-same-length-6
+same-length-6 c = search needs
+
+returns-7 : tie.Need-returns-7
+unfolding served
+returns-7 c =
+    let t = c .before .before .before .before in
+    let s = t .before .before .before .before .before in
+    ap (λ (q : Replied). withFlash q (s .args .flash .now)) (c .before .before .query .ensures)
+    ∙ sym (ap (λ (q : Request). served q (s .args .s) (s .args .flash .now) (s .args .asked) (s .args .d .now) (s .args .reply .now)) (t .enum-told7 .given .1))
+
+returns-8 : tie.Need-returns-8
+unfolding served
+returns-8 c =
+    let t = c .before in
+    let s = t .before .before .before .before .before in
+    ap (λ (q : Outcome). leaves q (s .args .flash .now) (s .args .reply .now)) (c .stalled .ensures)
+    ∙ sym (ap (λ (q : Request). served q (s .args .s) (s .args .flash .now) (s .args .asked) (s .args .d .now) (s .args .reply .now)) (t .enum-told8 .given .1))
+
+pub serve-spec : {M : Type 1} → statement M
+serve-spec =
+    tie.close
+    (tie.spec
+    enum-told
+    dnload-requires
+    enum-told-2
+    upload-requires
+    enum-told-3
+    getstatus-requires
+    enum-told-4
+    idle-requires
+    taken-requires
+    enum-told-5
+    getstate-requires
+    enum-told-6
+    idle-requires-2
+    taken-requires-2
+    enum-told-7
+    query-requires
+    enum-told-8
+    stalled-requires
+    same-length
+    returns
+    same-length-2
+    same-length-3
+    returns-2
+    same-length-4
+    returns-3
+    returns-4
+    same-length-5
+    returns-5
+    returns-6
+    same-length-6
+    returns-7
+    returns-8)

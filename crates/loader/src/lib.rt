@@ -1,0 +1,99 @@
+// The loader: a fresh start, and one request after another. It checks all that it is handed, so a board's programmer need not.
+use flash::BLOCK;
+use flash::Block;
+use moves::Answer;
+use moves::Outcome;
+use request::Request;
+use session::Board;
+use session::Session;
+ghost use mathlib.Core.Path.{_≡_};
+ghost use mathlib.Core.Bool.{true};
+ghost use lib.ListN.{length};
+ghost use Rattle.request.specs.Request.{requestOf, wLength, allowedOf};
+ghost use Rattle.moves.specs.Answers.{leaves};
+ghost use Rattle.loader.specs.Step.{startable, startOutcome, ready, served, stepOf, Served};
+
+mod reply;
+mod upload;
+
+// A, B and the flash length as they must be; 64 bits hold the product at any B.
+fn allowed_start(flash_len: usize, a: Block, b: Block) -> bool
+    ensures { λ r. ⌜ r ≡ startable «flash_len» (a .0) (b .0) ⌝ }
+{
+    session::allowed_split(a, b) & (flash_len as u64 == (b.0 as u64) * (BLOCK as u64))
+}
+
+// The fresh session of a board, with the sums of its flash; answer 2 and a session of zeros where A, B or the length is wrong.
+pub fn start(flash: &[u8], a: Block, b: Block, part0: u32, part1: u32) -> Outcome
+    ensures { λ r. ⌜ r ≡ startOutcome (now (flash .entry)) (a .0) (b .0) part0 part1 ⌝ }
+{
+    if !allowed_start(flash.len(), a, b) {
+        return Outcome {
+            answer: Answer::Unfit,
+            count: 0,
+            session: session::zeros(),
+        };
+    }
+    let board = Board {
+        a: a,
+        b: b,
+        part0: part0,
+        part1: part1,
+    };
+    let sums = sums::fresh(flash, a, session::app_end(board));
+    Outcome {
+        answer: Answer::Taken,
+        count: 0,
+        session: Session::fresh(a, b, part0, part1, sums),
+    }
+}
+
+// What a call must find before anything is done.
+fn is_ready(s: Session, flash_len: usize, setup: &[u8], data_len: usize, reply_len: usize) -> bool
+    ensures { λ r. ⌜ r ≡ ready s «flash_len» (now (setup .entry)) «data_len» «reply_len» ⌝ }
+{
+    (setup.len() == 8)
+        & (1024 <= reply_len)
+        & (flash_len as u64 == (s.board.b.0 as u64) * (BLOCK as u64))
+        & (data_len == request::asked(setup) as usize)
+        & session::fit(s)
+}
+
+// An allowed request.
+fn serve(
+    r: Request,
+    s: Session,
+    flash: &mut [u8],
+    asked: u32,
+    d: &[u8],
+    reply: &mut [u8],
+) -> Outcome
+    requires { ⌜ Served r s (now flash) asked (length (now reply)) ⌝ }
+    ensures { λ o. ⌜ leaves o (now (flash .exit)) (now (reply .exit)) ≡ served r s (now (flash .entry)) asked (now (d .entry)) (now (reply .entry)) ⌝ }
+{
+    match r {
+        Request::Dnload => command::dnload(s, flash, d),
+        Request::Upload => upload::upload(s, flash, asked, reply),
+        Request::GetStatus => reply::getstatus(s, reply),
+        Request::ClrStatus => moves::taken(moves::idle(s)),
+        Request::GetState => reply::getstate(s, reply),
+        Request::Abort => moves::taken(moves::idle(s)),
+        Request::Query => reply::query(s, reply),
+        Request::Nothing => moves::stalled(s),
+    }
+}
+
+// One request, well formed or not, in any state.
+pub fn step(s: Session, flash: &mut [u8], setup: &[u8], d: &[u8], reply: &mut [u8]) -> Outcome
+    ensures { λ r. ⌜ leaves r (now (flash .exit)) (now (reply .exit)) ≡ stepOf s (now (flash .entry)) (now (setup .entry)) (now (d .entry)) (now (reply .entry)) ⌝ }
+{
+    if !is_ready(s, flash.len(), setup, d.len(), reply.len()) {
+        return moves::unfit(s);
+    }
+    let r = request::read_setup(setup);
+    let asked = request::length_of(setup);
+    if !request::allowed(r, asked, s.phase.state) {
+        return moves::stalled(s);
+    }
+    serve(r, s, flash, asked, d, reply)
+}

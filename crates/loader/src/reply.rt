@@ -1,0 +1,85 @@
+// The requests that answer bytes but stream none: GETSTATUS, GETSTATE and the query.
+use moves::Answer;
+use moves::Outcome;
+use session::Phase;
+use session::Session;
+use session::State;
+ghost use Prim.Native.Nat.{_≤_};
+ghost use mathlib.Core.Path.{_≡_};
+ghost use lib.ListN.{length};
+ghost use Rattle.moves.specs.Answers.{replied};
+ghost use Rattle.loader.specs.Reply.{answered, entered, polled, pollTime, getstatusOf, getstateOf, queryOf};
+
+// Taken, with the bytes at the front of the reply.
+fn answer(s: Session, bytes: &[u8], reply: &mut [u8]) -> Outcome
+    requires { ⌜ (length (now bytes) ≤ length (now reply)) × (length (now bytes) ≤ 1024) ⌝ }
+    ensures { λ r. ⌜ replied r (now (reply .exit)) ≡ answered s (now (bytes .entry)) (now (reply .entry)) ⌝ }
+{
+    let n = bytes::copy(bytes, reply);
+    Outcome {
+        answer: Answer::Taken,
+        count: n as u32,
+        session: s,
+    }
+}
+
+// The state that a poll enters.
+fn next(phase: Phase) -> u8
+    ensures { λ r. ⌜ r ≡ entered phase ⌝ }
+{
+    let state = phase.state.0;
+    match state {
+        State::DOWNLOAD_SYNC => phase.after.0,
+        State::MANIFEST_SYNC => State::IDLE,
+        _ => state,
+    }
+}
+
+fn poll(s: Session) -> Session
+    ensures { λ r. ⌜ r ≡ polled s ⌝ }
+{
+    let mut t = s;
+    let state = next(s.phase);
+    t.phase.state.0 = state;
+    t.phase.after.0 = State::IDLE;
+    t
+}
+
+// How long the host is to wait before it polls again.
+fn poll_time(s: Session) -> u32
+    ensures { λ r. ⌜ r ≡ pollTime s ⌝ }
+{
+    0
+}
+
+pub fn getstatus(s: Session, reply: &mut [u8]) -> Outcome
+    requires { ⌜ 1024 ≤ length (now reply) ⌝ }
+    ensures { λ r. ⌜ replied r (now (reply .exit)) ≡ getstatusOf s (now (reply .entry)) ⌝ }
+{
+    let wait = poll_time(s);
+    let bytes = [
+        s.phase.status.0,
+        (wait % 256) as u8,
+        (wait / 256 % 256) as u8,
+        (wait / 65536 % 256) as u8,
+        next(s.phase),
+        0,
+    ];
+    answer(poll(s), &bytes, reply)
+}
+
+pub fn getstate(s: Session, reply: &mut [u8]) -> Outcome
+    requires { ⌜ 1024 ≤ length (now reply) ⌝ }
+    ensures { λ r. ⌜ replied r (now (reply .exit)) ≡ getstateOf s (now (reply .entry)) ⌝ }
+{
+    let bytes = [s.phase.state.0];
+    answer(s, &bytes, reply)
+}
+
+pub fn query(s: Session, reply: &mut [u8]) -> Outcome
+    requires { ⌜ 1024 ≤ length (now reply) ⌝ }
+    ensures { λ r. ⌜ replied r (now (reply .exit)) ≡ queryOf s (now (reply .entry)) ⌝ }
+{
+    let bytes = [0x4D, 0x4C, 0x01, 0x20];
+    answer(s, &bytes, reply)
+}
