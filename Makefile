@@ -1,3 +1,16 @@
-.PHONY: test
-test:
+# The two commands of the README are demo and test. Everything else serves them.
+HOST = cargo run --quiet --release --offline --manifest-path host/Cargo.toml --bin
+
+.PHONY: test demo expected host
+
+# The gate: the second loader's own tests, the stored outputs against it, then every proof, every edit that must fail and every
+# program, from nothing. The last line is the prover's own count.
+test: host expected
 	rt ci
+
+host:
+	cargo test --quiet --release --offline --manifest-path host/Cargo.toml
+
+# What the programs are held to was computed by the second loader, and still is what it computes.
+expected:
+	$(HOST) vectors | cmp - crates/vectors/stdout

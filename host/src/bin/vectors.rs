@@ -1,5 +1,5 @@
 //! The published CRC-32 vectors a second time, one bit after the other and with no table: the
-//! lines that the program `vectors` must write. Standard library only; `rustc -O main.rs`.
+//! lines that the program `vectors` must write. Standard library only.
 
 /// The sum of a DFU file suffix: each bit of a byte, the lowest first, is compared with the low
 /// bit of the register, and where they differ the polynomial goes in.
