@@ -4,7 +4,7 @@ use Prim.Native.Nat.{ℕ, _+_, _≤_, _<_, _^_}
 use mathlib.Core.Bool.{Bool, true, not, _&&_}
 use mathlib.Core.List.{List, _++_}
 use mathlib.Core.Logic.{inl, inr, ⊎-elim}
-use mathlib.Core.Path.{_≡_, ap₂}
+use mathlib.Core.Path.{_≡_, sym, ap, ap₂, _∙_}
 use native.Mathlib.Omega.{arith}
 use borrow.Author.Tests.{eqb-true, leb-true}
 use lib.Dec.{eqb, leb}
@@ -22,11 +22,12 @@ use Rattle.request.specs.Request.{dataAsked, allowedOf}
 use Rattle.request.specs.declared.Request.{Request}
 use Rattle.stream.proofs.Laws.{next-length}
 use Rattle.moves.specs.declared.Answer.{Answer}
-use Rattle.moves.specs.Answers.{outcome, replied}
+use Rattle.moves.specs.declared.Outcome.{Outcome}
+use Rattle.moves.specs.Answers.{outcome, replied, leaves, Replied, Done, Leaves}
 use Rattle.command.specs.Ready.{Ready, Loading}
 use Rattle.loader.specs.Reply.{answered}
 use Rattle.loader.specs.Upload.{placeOf, answerOf}
-use Rattle.loader.specs.Step.{startable, ready}
+use Rattle.loader.specs.Step.{startable, ready, served, withReply, withFlash}
 
 -- an answer of n bytes
 pub answered-by : (s : Session) (bytes before after : List ℕ) (n : ℕ) → n ≡ length bytes → after ≡ bytes ++ drop (length bytes) before → replied (outcome Answer.Taken n s) after ≡ answered s bytes before
@@ -103,3 +104,17 @@ allowed-loading s asked e =
           ⊎-elim (λ h. inl (eqb-true _ _ (left-of (eqb (s .phase .state .0) idle) (not (eqb asked 0)) h))) (λ h. inr (eqb-true _ _ h))
           (either (eqb (s .phase .state .0) idle && not (eqb asked 0)) (eqb (s .phase .state .0) downloadIdle) e);
     }
+
+-- a request that is told leaves what that request leaves: by its reply over a flash that stays, or by its outcome alone
+module _ (r q : Request) (s : Session) (f : List ℕ) (n : ℕ) (d b : List ℕ) (told : r ≡ q) where
+  as-told : (l : Leaves) → l ≡ served q s f n d b → l ≡ served r s f n d b
+  as-told l e = e ∙ sym (ap (λ (x : Request). served x s f n d b) told)
+
+  pub told-reply : (x y : Replied) → x ≡ y → withFlash y f ≡ served q s f n d b → withFlash x f ≡ served r s f n d b
+  told-reply x y e p = as-told (withFlash x f) (ap (λ (z : Replied). withFlash z f) e ∙ p)
+
+  pub told-outcome : (x y : Outcome) → x ≡ y → leaves y f b ≡ served q s f n d b → leaves x f b ≡ served r s f n d b
+  told-outcome x y e p = as-told (leaves x f b) (ap (λ (z : Outcome). leaves z f b) e ∙ p)
+
+  pub told-done : (x y : Done) → x ≡ y → withReply y b ≡ served q s f n d b → withReply x b ≡ served r s f n d b
+  told-done x y e p = as-told (withReply x b) (ap (λ (z : Done). withReply z b) e ∙ p)

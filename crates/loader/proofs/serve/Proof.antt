@@ -1,12 +1,10 @@
 -- Each arm by its request. Assumes nothing.
-use mathlib.Core.Path.{sym, ap, _∙_}
-use Rattle.loader.proofs.Laws.{allowed-loading}
-use Rattle.loader.specs.Step.{served, withReply, withFlash}
+use mathlib.Core.Path.{refl, sym, ap, _∙_}
+use Rattle.loader.proofs.Laws.{allowed-loading, told-done, told-reply, told-outcome}
+use Rattle.loader.specs.Step.{served}
 use Rattle.request.specs.Request.{allowedOf}
 use Rattle.request.specs.declared.Request.{Request}
-use Rattle.moves.specs.Answers.{Done, Replied, leaves}
 use Rattle.moves.specs.Moves.{takenOf}
-use Rattle.moves.specs.declared.Outcome.{Outcome}
 use borrow.Author.Needs.{needs}
 use Rattle.loader.proofs.serve.Statement.{statement}
 use Rattle.loader.proofs.serve.Tie as tie
@@ -76,11 +74,7 @@ same-length c = search needs
 
 returns : tie.Need-returns
 unfolding served
-returns c =
-    let t = c .before .before .before .before in
-    let s = t .before .before .before .before .before in
-    ap (λ (q : Done). withReply q (s .args .reply .now)) (c .before .before .dnload .ensures)
-    ∙ sym (ap (λ (q : Request). served q (s .args .s) (s .args .flash .now) (s .args .asked) (s .args .d .now) (s .args .reply .now)) (t .enum-told .given .1))
+returns c = told-done _ _ _ _ _ _ _ (c .before .before .before .before .enum-told .given .1) _ _ (c .before .before .dnload .ensures) refl
 
 same-length-2 : tie.Need-same-length-2
 same-length-2 c = search needs
@@ -90,68 +84,40 @@ same-length-3 c = search needs
 
 returns-2 : tie.Need-returns-2
 unfolding served
-returns-2 c =
-    let t = c .before .before .before .before .before in
-    let s = t .before .before .before .before .before in
-    ap (λ (q : Replied). withFlash q (s .args .flash .now)) (c .before .before .upload .ensures)
-    ∙ sym (ap (λ (q : Request). served q (s .args .s) (s .args .flash .now) (s .args .asked) (s .args .d .now) (s .args .reply .now)) (t .enum-told2 .given .1))
+returns-2 c = told-reply _ _ _ _ _ _ _ (c .before .before .before .before .before .enum-told2 .given .1) _ _ (c .before .before .upload .ensures) refl
 
 same-length-4 : tie.Need-same-length-4
 same-length-4 c = search needs
 
 returns-3 : tie.Need-returns-3
 unfolding served
-returns-3 c =
-    let t = c .before .before .before .before in
-    let s = t .before .before .before .before .before in
-    ap (λ (q : Replied). withFlash q (s .args .flash .now)) (c .before .before .getstatus .ensures)
-    ∙ sym (ap (λ (q : Request). served q (s .args .s) (s .args .flash .now) (s .args .asked) (s .args .d .now) (s .args .reply .now)) (t .enum-told3 .given .1))
+returns-3 c = told-reply _ _ _ _ _ _ _ (c .before .before .before .before .enum-told3 .given .1) _ _ (c .before .before .getstatus .ensures) refl
 
 returns-4 : tie.Need-returns-4
 unfolding served
-returns-4 c =
-    let t = c .before .before in
-    let s = t .before .before .before .before .before in
-    ap (λ (q : Outcome). leaves q (s .args .flash .now) (s .args .reply .now)) (c .taken .ensures ∙ ap takenOf (c .before .idle .ensures))
-    ∙ sym (ap (λ (q : Request). served q (s .args .s) (s .args .flash .now) (s .args .asked) (s .args .d .now) (s .args .reply .now)) (t .enum-told4 .given .1))
+returns-4 c = told-outcome _ _ _ _ _ _ _ (c .before .before .enum-told4 .given .1) _ _ (c .taken .ensures ∙ ap takenOf (c .before .idle .ensures)) refl
 
 same-length-5 : tie.Need-same-length-5
 same-length-5 c = search needs
 
 returns-5 : tie.Need-returns-5
 unfolding served
-returns-5 c =
-    let t = c .before .before .before .before in
-    let s = t .before .before .before .before .before in
-    ap (λ (q : Replied). withFlash q (s .args .flash .now)) (c .before .before .getstate .ensures)
-    ∙ sym (ap (λ (q : Request). served q (s .args .s) (s .args .flash .now) (s .args .asked) (s .args .d .now) (s .args .reply .now)) (t .enum-told5 .given .1))
+returns-5 c = told-reply _ _ _ _ _ _ _ (c .before .before .before .before .enum-told5 .given .1) _ _ (c .before .before .getstate .ensures) refl
 
 returns-6 : tie.Need-returns-6
 unfolding served
-returns-6 c =
-    let t = c .before .before in
-    let s = t .before .before .before .before .before in
-    ap (λ (q : Outcome). leaves q (s .args .flash .now) (s .args .reply .now)) (c .taken2 .ensures ∙ ap takenOf (c .before .idle2 .ensures))
-    ∙ sym (ap (λ (q : Request). served q (s .args .s) (s .args .flash .now) (s .args .asked) (s .args .d .now) (s .args .reply .now)) (t .enum-told6 .given .1))
+returns-6 c = told-outcome _ _ _ _ _ _ _ (c .before .before .enum-told6 .given .1) _ _ (c .taken2 .ensures ∙ ap takenOf (c .before .idle2 .ensures)) refl
 
 same-length-6 : tie.Need-same-length-6
 same-length-6 c = search needs
 
 returns-7 : tie.Need-returns-7
 unfolding served
-returns-7 c =
-    let t = c .before .before .before .before in
-    let s = t .before .before .before .before .before in
-    ap (λ (q : Replied). withFlash q (s .args .flash .now)) (c .before .before .query .ensures)
-    ∙ sym (ap (λ (q : Request). served q (s .args .s) (s .args .flash .now) (s .args .asked) (s .args .d .now) (s .args .reply .now)) (t .enum-told7 .given .1))
+returns-7 c = told-reply _ _ _ _ _ _ _ (c .before .before .before .before .enum-told7 .given .1) _ _ (c .before .before .query .ensures) refl
 
 returns-8 : tie.Need-returns-8
 unfolding served
-returns-8 c =
-    let t = c .before in
-    let s = t .before .before .before .before .before in
-    ap (λ (q : Outcome). leaves q (s .args .flash .now) (s .args .reply .now)) (c .stalled .ensures)
-    ∙ sym (ap (λ (q : Request). served q (s .args .s) (s .args .flash .now) (s .args .asked) (s .args .d .now) (s .args .reply .now)) (t .enum-told8 .given .1))
+returns-8 c = told-outcome _ _ _ _ _ _ _ (c .before .enum-told8 .given .1) _ _ (c .stalled .ensures) refl
 
 pub serve-spec : {M : Type 1} → statement M
 serve-spec =

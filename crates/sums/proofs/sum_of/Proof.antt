@@ -1,5 +1,6 @@
 -- The two conversions give the ends of the part, which lies in flash. Assumes nothing.
-use mathlib.Core.Path.{ap, _∙_}
+use mathlib.Core.Path.{_≡_, ap, _∙_}
+use Rattle.flash.specs.Flash.{startOf}
 use Rattle.crc.specs.Crc.{crcOf}
 use Rattle.sums.proofs.Laws.{blocks-part}
 use native.Mathlib.Omega.{arith}
@@ -42,44 +43,32 @@ cast-start c = search needs
 cast-end : tie.Need-cast-end
 cast-end c = search needs
 
+-- where the part begins and ends
+ends : (k : tie.After-known-told2)
+    → (k .before .before .before .before .before .from .given .0 .0 .0 ≡ startOf (k .before .before .before .before .before .before .before .before .before .args .first .0))
+    × (k .before .to .given .0 .0 .0 ≡ startOf (k .before .before .before .before .before .before .before .before .before .args .stop .0))
+ends k =
+    let k1 = k .before .before .before .before in (
+      reached _ _ _ (k1 .before .from .given .1) (k1 .before .before .before .address .ensures),
+      reached _ _ _ (k .before .to .given .1) (k .before .before .before .address2 .ensures),
+    )
+
 sub-sum : tie.Need-sub-sum
-sub-sum c =
-    let k2 = c .before .before in
-    let k1 = k2 .before .before .before .before in
-    let s = k1 .before .before .before .before .before in
-    let low = reached (s .args .first .0) _ _ (k1 .before .from .given .1) (k1 .before .before .before .address .ensures) in
-    let high = reached (s .args .stop .0) _ _ (k2 .before .to .given .1) (k2 .before .before .before .address2 .ensures) in
-    omega arith
+sub-sum c = omega (arith, ends (c .before .before))
 
 part-sum-start : tie.Need-part-sum-start
-part-sum-start c =
-    let k2 = c .before .before in
-    let k1 = k2 .before .before .before .before in
-    let s = k1 .before .before .before .before .before in
-    let low = reached (s .args .first .0) _ _ (k1 .before .from .given .1) (k1 .before .before .before .address .ensures) in
-    let high = reached (s .args .stop .0) _ _ (k2 .before .to .given .1) (k2 .before .before .before .address2 .ensures) in
-    omega arith
+part-sum-start c = omega (arith, ends (c .before .before))
 
 part-sum-end : tie.Need-part-sum-end
-part-sum-end c =
-    let k2 = c .before .before in
-    let k1 = k2 .before .before .before .before in
-    let s = k1 .before .before .before .before .before in
-    let low = reached (s .args .first .0) _ _ (k1 .before .from .given .1) (k1 .before .before .before .address .ensures) in
-    let high = reached (s .args .stop .0) _ _ (k2 .before .to .given .1) (k2 .before .before .before .address2 .ensures) in
-    omega arith
+part-sum-end c = omega (arith, ends (c .before .before))
 
 sum-requires : tie.Need-sum-requires
 sum-requires c κs = search needs
 
 returns-3 : tie.Need-returns-3
 returns-3 c =
-    let k2 = c .before .before .before .before in
-    let k1 = k2 .before .before .before .before in
-    let s = k1 .before .before .before .before .before in
-    let low = reached (s .args .first .0) _ _ (k1 .before .from .given .1) (k1 .before .before .before .address .ensures) in
-    let high = reached (s .args .stop .0) _ _ (k2 .before .to .given .1) (k2 .before .before .before .address2 .ensures) in
-    c .sum .ensures ∙ ap crcOf (blocks-part _ (s .args .first .0) (s .args .stop .0) _ _ low high)
+    let e = ends (c .before .before .before .before) in
+    c .sum .ensures ∙ ap crcOf (blocks-part _ _ _ _ _ (e .0) (e .1))
 
 pub sum-of-spec : {M : Type 1} → statement M
 sum-of-spec =
