@@ -1,0 +1,55 @@
+-- Which record a script goes on with, and that its parts lie in the script. Assumes nothing.
+use Prim.Native.Nat.{ℕ, _+_, _-_, _≤_, _<_}
+use mathlib.Core.List.{List}
+use mathlib.Core.Path.{_≡_, sym}
+use native.Mathlib.Decide.{decLt}
+use native.Mathlib.Omega.{arith}
+use borrow.Author.Tests.{lt-ltb, le-ltb}
+use lib.ListN.{length, take, drop, length-take, length-drop}
+use Rattle.script.specs.Tape.{setupEnd, dataEnd, recordOf}
+use Rattle.script.specs.declared.tape.Record.{Record}
+use Rattle.script.specs.declared.tape.Record.the-variants.{Call, End}
+
+module _ (rest : List ℕ) where
+  pub cut-in-setup : length rest < setupEnd rest + 2 → recordOf rest ≡ End
+  unfolding recordOf
+  cut-in-setup h = rw (lt-ltb (length rest) (setupEnd rest + 2) h)
+
+  pub cut-in-data : setupEnd rest + 2 ≤ length rest → length rest < dataEnd rest → recordOf rest ≡ End
+  unfolding recordOf
+  cut-in-data h k = rw (le-ltb (length rest) (setupEnd rest + 2) h, lt-ltb (length rest) (dataEnd rest) k)
+
+  pub whole-record : setupEnd rest + 2 ≤ length rest → dataEnd rest ≤ length rest → recordOf rest ≡ Call (setupEnd rest) (dataEnd rest)
+  unfolding recordOf
+  whole-record h k = rw (le-ltb (length rest) (setupEnd rest + 2) h, le-ltb (length rest) (dataEnd rest) k)
+
+-- what is left of a script from a place on
+abbrev pub rest : List ℕ → ℕ → List ℕ
+rest script at = take (length script - at) (drop at script)
+
+-- the setup and then the data lie in what is left, and the next record begins further on
+pub record Inside (script : List ℕ) (at ends next : ℕ) : Type 0 where
+  pub setup : 1 ≤ ends
+  pub ordered : ends + 2 ≤ next
+  pub within : next ≤ length (rest script at)
+  pub onward : at + next ≤ length script
+
+module _ (script : List ℕ) (at : ℕ) (h : at < length script) (ends next : ℕ) where
+  parts-inside : ends ≡ setupEnd (rest script at) → next ≡ dataEnd (rest script at) → next ≤ length (rest script at) → Inside script at ends next
+  parts-inside s d w =
+      let long : length (rest script at) ≡ length script - at = simp (length-take, length-drop) (omega arith) in
+      record { setup = omega arith; ordered = omega arith; within = w; onward = omega arith }
+
+  pub inside : recordOf (rest script at) ≡ Call ends next → Inside script at ends next
+  inside e =
+      let r = rest script at in
+      elim (decLt (length r) (setupEnd r + 2)) [
+        | yes l ↦ let p = cut-in-setup r l in let z : _≡_ {A = ℕ} 0 1 = cc in absurd (omega arith)
+        | no l ↦ elim (decLt (length r) (dataEnd r)) [
+          | yes m ↦ let p = cut-in-data r (omega arith) m in let z : _≡_ {A = ℕ} 0 1 = cc in absurd (omega arith)
+          | no m ↦
+              let p = whole-record r (omega arith) (omega arith) in
+              let d : next ≡ dataEnd r = cc in
+              parts-inside (cc) d (omega arith)
+        ]
+      ]

@@ -1,0 +1,47 @@
+-- A byte names at most 255 blocks, and there is room for as many.
+use native.Mathlib.Omega.{arith}
+use lib.ListN.{length-take}
+use borrow.Author.Needs.{needs}
+use Rattle.script.proofs.play.Statement.{statement}
+use Rattle.script.proofs.play.Tie as tie
+
+returns : tie.Need-returns
+returns c = search needs
+
+read-head-requires : tie.Need-read-head-requires
+read-head-requires c κs = search needs
+
+cast-n : tie.Need-cast-n
+cast-n c = search needs
+
+mul-n : tie.Need-mul-n
+mul-n c = search needs
+
+room-requires : tie.Need-room-requires
+room-requires c κs = search needs
+
+array-borrow-prefix-flash : tie.Need-array-borrow-prefix-flash
+array-borrow-prefix-flash c = search needs
+
+slice-aggregate-play-from : tie.Need-slice-aggregate-play-from
+slice-aggregate-play-from c = simp length-take (omega arith)
+
+play-from-requires : tie.Need-play-from-requires
+play-from-requires c κs = simp length-take (omega arith)
+
+returns-2 : tie.Need-returns-2
+returns-2 c = search needs
+
+pub play-spec : {M : Type 1} → statement M
+play-spec =
+    tie.close
+    (tie.spec
+    returns
+    read-head-requires
+    cast-n
+    mul-n
+    room-requires
+    array-borrow-prefix-flash
+    slice-aggregate-play-from
+    play-from-requires
+    returns-2)

@@ -1,0 +1,126 @@
+-- Each record lies in what is left of the script, and takes some of it: so there is an end.
+use Prim.Native.Nat.{_-_}
+use mathlib.Core.Path.{_≡_, sym, _∙_}
+use native.Mathlib.Omega.{arith}
+use borrow.Author.Needs.{needs}
+use lib.ListN.{length}
+use Rattle.script.proofs.Records.{Inside, inside}
+use Rattle.script.proofs.play_calls.Statement.{statement}
+use Rattle.script.proofs.play_calls.Tie as tie
+
+abbrev Inv-loop : tie.InvT-loop
+Inv-loop script flash₀ session₀ at₀ flash session at = length flash ≡ length flash₀
+
+abbrev μ-loop : tie.MeasureT-loop
+μ-loop script flash₀ session₀ at₀ flash session at = length script - at
+
+loop-holds : tie.Need-loop-holds Inv-loop μ-loop
+loop-holds c = omega arith
+
+sub-rest : tie.Need-sub-rest Inv-loop μ-loop
+sub-rest c = omega arith
+
+part-rest-start : tie.Need-part-rest-start Inv-loop μ-loop
+part-rest-start c = omega arith
+
+part-rest-end : tie.Need-part-rest-end Inv-loop μ-loop
+part-rest-end c = omega arith
+
+next-record-requires : tie.Need-next-record-requires Inv-loop μ-loop
+next-record-requires c κs = search needs
+
+enum-known-ends : tie.Need-enum-known-ends Inv-loop μ-loop
+enum-known-ends c = search needs
+
+-- where the record's parts lie
+told :
+    (c : tie.After-known-told Inv-loop μ-loop)
+    → Inside (c .before .before .before .before .before .before .before .before .before .args .script .now) (c .before .before .before .before .before .before .loop .at) (c .before .ends .given .0 .0) (c .before .ends .given .0 .1 .0)
+told c =
+    let turn = c .before .before .before .before .before in
+    inside _ _ (turn .loop-test .taken) _ _ (sym (c .before .before .before .next-record .ensures) ∙ c .before .ends .given .1)
+
+add-from : tie.Need-add-from Inv-loop μ-loop
+add-from c = let h = told c in omega arith
+
+sub-play-call : tie.Need-sub-play-call Inv-loop μ-loop
+sub-play-call c = let h = told (c .before) in omega arith
+
+part-play-call-start : tie.Need-part-play-call-start Inv-loop μ-loop
+part-play-call-start c = let h = told (c .before) in omega arith
+
+part-play-call-end : tie.Need-part-play-call-end Inv-loop μ-loop
+part-play-call-end c = let h = told (c .before) in omega arith
+
+sub-play-call-2 : tie.Need-sub-play-call-2 Inv-loop μ-loop
+sub-play-call-2 c = let h = told (c .before .before) in omega arith
+
+part-play-call-start-2 : tie.Need-part-play-call-start-2 Inv-loop μ-loop
+part-play-call-start-2 c = let h = told (c .before .before) in omega arith
+
+part-play-call-end-2 : tie.Need-part-play-call-end-2 Inv-loop μ-loop
+part-play-call-end-2 c = let h = told (c .before .before) in omega arith
+
+play-call-requires : tie.Need-play-call-requires Inv-loop μ-loop
+play-call-requires c κs = search needs
+
+show-requires : tie.Need-show-requires Inv-loop μ-loop
+show-requires c κs = search needs
+
+add-at : tie.Need-add-at Inv-loop μ-loop
+add-at c =
+    let t = c .before .before .before .before .before .before .before .before in
+    let h = told t in
+    let few = t .before .before .before .before .before .before .before .before .before .good .0 .0 in
+    omega arith
+
+loop-less : tie.Need-loop-less Inv-loop μ-loop
+loop-less c = let h = told (c .before .before .before .before .before .before .before .before) in omega arith
+
+loop-again : tie.Need-loop-again Inv-loop μ-loop
+loop-again c = omega arith
+
+enum-told : tie.Need-enum-told Inv-loop μ-loop
+enum-told c = search needs
+
+same-length : tie.Need-same-length Inv-loop μ-loop
+same-length c = search needs
+
+returns : tie.Need-returns Inv-loop μ-loop
+returns c = search needs
+
+same-length-2 : tie.Need-same-length-2 Inv-loop μ-loop
+same-length-2 c = search needs
+
+returns-2 : tie.Need-returns-2 Inv-loop μ-loop
+returns-2 c = search needs
+
+pub play-calls-spec : {M : Type 1} → statement M
+play-calls-spec =
+    tie.close
+    (tie.spec
+    Inv-loop
+    μ-loop
+    loop-holds
+    sub-rest
+    part-rest-start
+    part-rest-end
+    next-record-requires
+    enum-known-ends
+    add-from
+    sub-play-call
+    part-play-call-start
+    part-play-call-end
+    sub-play-call-2
+    part-play-call-start-2
+    part-play-call-end-2
+    play-call-requires
+    show-requires
+    add-at
+    loop-less
+    loop-again
+    enum-told
+    same-length
+    returns
+    same-length-2
+    returns-2)

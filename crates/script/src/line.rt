@@ -1,0 +1,108 @@
+// What is written of a call: its answer in numbers, and the sums of all that it left.
+use libc::STDOUT_FILENO;
+use moves::Answer;
+use moves::Outcome;
+use sums::MOST;
+ghost use mathlib.Core.Path.{_≡_};
+ghost use Rattle.moves.specs.Answers.{answerNumber};
+ghost use Rattle.crc.specs.Crc.{crcOf};
+ghost use Rattle.stream.specs.Stream.{bytes4};
+ghost use Rattle.script.specs.Turn.{sumBytes, lineOf};
+
+// Where a sum starts.
+const START: u32 = 0xFFFF_FFFF;
+
+// The last three are the sums of the kept block sums, of the whole reply buffer and of the flash.
+pub struct Line {
+    pub answer: u8,
+    pub count: u32,
+    pub state: u8,
+    pub status: u8,
+    pub whole: u32,
+    pub sums: u32,
+    pub reply: u32,
+    pub flash: u32,
+}
+
+fn number(answer: Answer) -> u8
+    ensures { λ r. ⌜ r ≡ answerNumber answer ⌝ }
+{
+    match answer {
+        Answer::Taken => 0,
+        Answer::Stalled => 1,
+        Answer::Unfit => 2,
+        Answer::Faulted => 3,
+        Answer::ResetAsked => 4,
+    }
+}
+
+fn low4(n: u32) -> [u8; 4]
+    ensures { λ r. ⌜ r ≡ bytes4 n ⌝ }
+{
+    [
+        (n % 256) as u8,
+        (n / 256 % 256) as u8,
+        (n / 65536 % 256) as u8,
+        (n / 16_777_216 % 256) as u8,
+    ]
+}
+
+// The sum of the kept block sums, four bytes each.
+fn sum_of_sums(block: &[u32; MOST]) -> u32
+    ensures { λ r. ⌜ r ≡ crcOf (sumBytes (now (block .entry))) ⌝ }
+{
+    let mut sum = START;
+    let mut i = 0;
+    while i < MOST {
+        let bytes = low4(block[i]);
+        sum = crc::sum_from(sum, &bytes);
+        i += 1;
+    }
+    sum
+}
+
+pub fn line_of(outcome: Outcome, reply: &[u8], flash: &[u8]) -> Line
+    ensures { λ r. ⌜ r ≡ lineOf outcome (now (reply .entry)) (now (flash .entry)) ⌝ }
+{
+    let answer = outcome.answer;
+    let sums = outcome.session.sums;
+    let block = sums.block;
+    Line {
+        answer: number(answer),
+        count: outcome.count,
+        state: outcome.session.phase.state.0,
+        status: outcome.session.phase.status.0,
+        whole: sums.whole,
+        sums: sum_of_sums(&block),
+        reply: crc::sum(reply),
+        flash: crc::sum(flash),
+    }
+}
+
+fn show_decimal(n: u32) {
+    io::print_decimal(STDOUT_FILENO, n as u64);
+    io::write_all(STDOUT_FILENO, b" ");
+}
+
+fn show_hex(n: u32, after: &[u8]) {
+    io::write_all(STDOUT_FILENO, &print::hex8(n));
+    io::write_all(STDOUT_FILENO, after);
+}
+
+pub fn show(line: Line) {
+    show_decimal(line.answer as u32);
+    show_decimal(line.count);
+    show_decimal(line.state as u32);
+    show_decimal(line.status as u32);
+    show_hex(line.whole, b" ");
+    show_hex(line.sums, b" ");
+    show_hex(line.reply, b" ");
+    show_hex(line.flash, b"\n");
+}
+
+pub fn show_start(begun: Outcome) {
+    let answer = begun.answer;
+    io::write_all(STDOUT_FILENO, b"start ");
+    show_decimal(number(answer) as u32);
+    show_hex(begun.session.sums.whole, b"\n");
+}
