@@ -1,1 +1,3 @@
 -- What the user is promised: the proofs.
+pub mod Ways
+pub mod OneOutside
