@@ -1,3 +1,4 @@
 -- What the user is promised: the proofs.
 pub mod Ways
 pub mod OneOutside
+pub mod OneFit
