@@ -2,3 +2,4 @@
 pub mod Ways
 pub mod OneOutside
 pub mod OneFit
+pub mod ThreeHistory
