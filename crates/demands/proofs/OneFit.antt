@@ -29,7 +29,7 @@ use Rattle.request.specs.Request.{wordAt, wLength, dataAsked}
 use Rattle.stream.proofs.Laws.{next-length}
 use Rattle.moves.specs.declared.Answer.{Answer}
 use Rattle.moves.specs.declared.Outcome.{Outcome}
-use Rattle.moves.specs.Answers.{Leaves, leaves, outcome}
+use Rattle.moves.specs.Answers.{Leaves, answerNumber, outcome}
 use Rattle.moves.specs.Moves.{rewound, movedTo, toIdle, toError, stallOf, unfitOf, faultOf, resetOf}
 use Rattle.command.specs.Ready.{Ready, Place}
 use Rattle.command.specs.Download.{longAt, wroteOf, infoOf, binOf, prefixFor}
@@ -39,9 +39,10 @@ use Rattle.loader.specs.Upload.{placeOf, answerOf, uploadEnds, uploadingAt, upl
 use Rattle.loader.specs.Step.{startable, freshStart, startOutcome, ready, stepOf}
 use Rattle.loader.proofs.Laws.{place-in-stream, start-split, start-sized}
 use Rattle.demands.specs.Calls.{Call, Site, called, next}
-use Rattle.demands.specs.One.{StaysFit, Allowed, StartsFit, Unfit, RefusedStart, FaultStatus, not-erased, out-of-range, bytes-missing, bad-command}
+use Rattle.demands.specs.One.{heard, StaysFit, Allowed, StartsFit, RefusedStart, FaultStatus, not-erased, out-of-range, bytes-missing, bad-command}
 use Rattle.demands.proofs.Ways.{pick, Loads, wipedOf, Ways, every-way}
 use Rattle.demands.proofs.OneOutside.{piece-place}
+use Rattle.demands.proofs.OneRefused.{refused-holds, unfit-exactly-holds}
 
 -- an upload at the stream's first byte keeps its rule in every state
 at-start : (p : Phase) (u : Upload) → u .place ≡ 0 → uploadRule p u ≡ true
@@ -279,10 +280,6 @@ stays-fit-holds at c e =
       idles = λ _. idle-fit s e;
     })
 
-no-right : (a b : Bool) → b ≡ false → (a && b) ≡ false
-no-right true b e = e
-no-right false b e = refl
-
 -- what a start finds
 allowed-startable : (f : List ℕ) (a b : ℕ) → Allowed f a b → startable (length f) a b ≡ true
 unfolding startable
@@ -325,29 +322,26 @@ unfolding freshStart
 starts-fit-holds f a b part0 part1 h =
     let e = started f a b part0 part1 h in
     let board = boardOf a b part0 part1 in
-    let split = start-split (length f) board (allowed-startable f a b h) in (
-      ap (λ (o : Outcome). o .answer) e,
-      ap (λ (o : Outcome). o .count) e,
-      ap (λ (o : Outcome). fitOf (o .session)) e ∙ fresh-fit board (freshSums f a (appEnd board)) split,
-    )
+    let split = start-split (length f) board (allowed-startable f a b h) in
+    record {
+      answer = ap (λ (o : Outcome). answerNumber (o .answer)) e;
+      count = ap (λ (o : Outcome). o .count) e;
+      fit = ap (λ (o : Outcome). fitOf (o .session)) e ∙ fresh-fit board (freshSums f a (appEnd board)) split;
+    }
 
--- a call with an unfit session
-pub unfit-call : (at : Site) (c : Call) → fitOf (at .session) ≡ false → Unfit at c
-unfolding called stepOf ready unfitOf
-unfit-call at c e =
-    let tests =
-    eqb (length (c .setup)) 8
-    && leb 1024 (length (c .reply))
-    && eqb (length (at .flash)) (startOf (at .session .board .b .0))
-    && eqb (length (c .bytes)) (dataAsked (c .setup))
-    in
-    let n : (tests && fitOf (at .session)) ≡ false = no-right tests (fitOf (at .session)) e in
-    record { answer = rw n; count = rw n; session = rw n; flash = rw n; reply = rw n }
+-- a call with an unfit session is unfit
+unfit-call : (at : Site) (c : Call) → fitOf (at .session) ≡ false → heard (called at c) ≡ 2
+unfit-call at c e = unfit-exactly-holds .unprepared at c (λ p. false≢true (sym e ∙ p .rules))
 
 pub refused-start-holds : RefusedStart
 refused-start-holds f a b part0 part1 n =
-    let e = not-started f a b part0 part1 n in (
-      ap (λ (o : Outcome). o .answer) e,
-      ap (λ (o : Outcome). o .count) e,
-      λ g c. unfit-call _ c (ap (λ (o : Outcome). fitOf (o .session)) e ∙ zeros-unfit),
-    )
+    let e = not-started f a b part0 part1 n in
+    let site : List ℕ → Site = λ g. record { session = startOutcome f a b part0 part1 .session; flash = g } in
+    let unfit = ap (λ (o : Outcome). fitOf (o .session)) e ∙ zeros-unfit in
+    record {
+      answer = ap (λ (o : Outcome). answerNumber (o .answer)) e;
+      count = ap (λ (o : Outcome). o .count) e;
+      session = ap (λ (o : Outcome). o .session) e;
+      later-answer = λ g c. unfit-call (site g) c unfit;
+      later = λ g c. refused-holds (site g) c .unfit (unfit-call (site g) c unfit);
+    }

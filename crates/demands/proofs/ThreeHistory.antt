@@ -175,7 +175,7 @@ sound-begun f a b part0 part1 h =
     record {
       ready =
           record {
-            fit = starts-fit-holds f a b part0 part1 h .2;
+            fit = starts-fit-holds f a b part0 part1 h .fit;
             sized = h .sized ∙ ap (λ (x : Board). startOf (x .b .0)) (sym same);
           };
       board = same;
