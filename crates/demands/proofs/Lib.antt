@@ -4,3 +4,4 @@ pub mod OneOutside
 pub mod OneRefused
 pub mod OneFit
 pub mod ThreeHistory
+pub mod ThreeNamed

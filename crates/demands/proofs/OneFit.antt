@@ -169,15 +169,15 @@ read-fit s block len e i =
     sync-fit (withUp s up) (k .split) i (flags-of up (omega arith) (prefix-of (s .up) (k .flags)))
 
 -- the state that a poll enters, state by state
-entered-sync : (p : Phase) → p .state .0 ≡ downloadSync → entered p ≡ p .after .0
+pub entered-sync : (p : Phase) → p .state .0 ≡ downloadSync → entered p ≡ p .after .0
 unfolding entered
 entered-sync p h = rw h
 
-entered-manifest : (p : Phase) → p .state .0 ≡ manifestSync → entered p ≡ idle
+pub entered-manifest : (p : Phase) → p .state .0 ≡ manifestSync → entered p ≡ idle
 unfolding entered
 entered-manifest p h = rw h
 
-entered-same : (p : Phase) → (p .state .0 ≡ downloadSync → ⊥) → (p .state .0 ≡ manifestSync → ⊥) → entered p ≡ p .state .0
+pub entered-same : (p : Phase) → (p .state .0 ≡ downloadSync → ⊥) → (p .state .0 ≡ manifestSync → ⊥) → entered p ≡ p .state .0
 unfolding entered
 entered-same p h k = rw (ne-eqb (p .state .0) downloadSync h, ne-eqb (p .state .0) manifestSync k)
 
