@@ -3,5 +3,6 @@ pub mod Ways
 pub mod OneOutside
 pub mod OneRefused
 pub mod OneFit
+pub mod OneMet
 pub mod ThreeHistory
 pub mod ThreeNamed
