@@ -19,18 +19,20 @@ use Rattle.moves.specs.Answers.{Leaves, leaves}
 use Rattle.moves.specs.Moves.{stallOf, faultOf, resetOf, toError}
 use Rattle.command.specs.Download.{wellFormed, carriedOut, commandOf, dnloadOf}
 use Rattle.loader.specs.Step.{ready, served, stepOf}
-use Rattle.demands.specs.Calls.{Call, Site, called}
-use Rattle.demands.specs.One.{OutsideApp, heard, Prepared, Allowed}
-use Rattle.demands.proofs.OneRefused.{prepared-ready, unfit-exactly-holds}
+use Rattle.demands.specs.Calls.{Call, Site, called, next}
+use Rattle.demands.specs.One.{OutsideApp, heard, InError, Prepared, Allowed}
+use Rattle.demands.proofs.OneOutside.{outside-holds}
+use Rattle.demands.proofs.OneRefused.{refused-holds, prepared-ready, unfit-exactly-holds}
+use Rattle.demands.proofs.OneFit.{stays-fit-holds}
 
 -- the board: A = 1, B = 2
 abbrev pub smallBoard : Board
 smallBoard = boardOf 1 2 0 0
 
-pub smallFlash : List ℕ
+unfoldable pub smallFlash : List ℕ
 smallFlash = blank (startOf 2)
 
-pub small : Site
+unfoldable pub small : Site
 small = record { session = freshOf smallBoard (freshSums smallFlash 1 2); flash = smallFlash }
 
 -- the sizes that a start allows, and others
@@ -57,7 +59,7 @@ pub stays-fit-met : fitOf (small .session) ≡ true
 unfolding small
 stays-fit-met = fresh-fit smallBoard (freshSums smallFlash 1 2) refl
 
-abbrev callOf : List ℕ → List ℕ → Call
+abbrev pub callOf : List ℕ → List ℕ → Call
 callOf setup bytes = record { setup = setup; bytes = bytes; reply = blank 1024 }
 
 -- CLRSTATUS in state 2, a command of one byte, RESET, no setup
@@ -142,3 +144,31 @@ faulted-met = ap heard (goes-on small oneByte one-byte-prepared)
 pub reset-asked-met : heard (called small resetCommand) ≡ 4
 unfolding small freshOf formOf setupOf allowedOf served dnloadOf commandOf wellFormed carriedOut resetOf
 reset-asked-met = ap heard (goes-on small resetCommand reset-prepared)
+
+-- a stall in state 10: the call after the stall above, ABORT
+abbrev pub abort : Call
+abort = callOf (0x21 ∷ 6 ∷ 0 ∷ 0 ∷ 0 ∷ 0 ∷ 0 ∷ 0 ∷ []) []
+
+stalled-once : InError (small .session) (next small clrstatus .session) 0x0F
+unfolding next small freshOf
+stalled-once = refused-holds small clrstatus .stalled stalled-met .elsewhere (λ e. omega (arith, e))
+
+abort-prepared : Prepared (next small clrstatus) abort
+abort-prepared =
+    record {
+      setup-bytes = refl;
+      room = roomy;
+      flash-length =
+          outside-holds small clrstatus .as-long
+          ∙ small-sized
+          ∙ ap (λ (b : Board). startOf (b .b .0)) (sym (stalled-once .board));
+      dnload-data = λ h. absurd (omega (arith, h .1));
+      other-data = λ _. refl;
+      rules = stays-fit-holds small clrstatus stays-fit-met;
+    }
+
+pub in-ten-met : (next small clrstatus .session .phase .state .0 ≡ 10) × (heard (called (next small clrstatus) abort) ≡ 1)
+unfolding formOf setupOf allowedOf stallOf
+in-ten-met =
+    let e = stalled-once .state in
+    (e, ap heard (goes-on (next small clrstatus) abort abort-prepared) ∙ rw e)
