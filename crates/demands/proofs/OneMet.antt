@@ -1,0 +1,174 @@
+-- The premises of demand 1 can be met: a flash of two blocks, the second the application's, and a call for each row of the answer table.
+-- Assumes nothing.
+use Prim.Native.Nat.{ℕ, _≤_, _<_}
+use mathlib.Core.Bool.{Bool, true, cond}
+use mathlib.Core.List.{List, [], _∷_}
+use mathlib.Core.Logic.{inl, inr}
+use mathlib.Core.Path.{_≡_, refl, sym, ap, _∙_}
+use native.Mathlib.Omega.{arith}
+use lib.ListN.{length}
+use Rattle.flash.specs.Flash.{startOf, blank}
+use Rattle.flash.proofs.Laws.{length-blank}
+use Rattle.sums.specs.Sum.{freshSums}
+use Rattle.session.specs.Session.{appEnd, boardOf, freshOf}
+use Rattle.session.specs.Rules.{fitOf}
+use Rattle.session.specs.declared.Board.{Board}
+use Rattle.session.proofs.Laws.{fresh-fit}
+use Rattle.request.specs.Request.{wLength, requestOf, allowedOf, formOf, setupOf}
+use Rattle.moves.specs.Answers.{Leaves, leaves}
+use Rattle.moves.specs.Moves.{stallOf, faultOf, resetOf, toError}
+use Rattle.command.specs.Download.{wellFormed, carriedOut, commandOf, dnloadOf}
+use Rattle.loader.specs.Step.{ready, served, stepOf}
+use Rattle.demands.specs.Calls.{Call, Site, called, next}
+use Rattle.demands.specs.One.{OutsideApp, heard, InError, Prepared, Allowed}
+use Rattle.demands.proofs.OneOutside.{outside-holds}
+use Rattle.demands.proofs.OneRefused.{refused-holds, prepared-ready, unfit-exactly-holds}
+use Rattle.demands.proofs.OneFit.{stays-fit-holds}
+
+-- the board: A = 1, B = 2
+abbrev pub smallBoard : Board
+smallBoard = boardOf 1 2 0 0
+
+unfoldable pub smallFlash : List ℕ
+smallFlash = blank (startOf 2)
+
+unfoldable pub small : Site
+small = record { session = freshOf smallBoard (freshSums smallFlash 1 2); flash = smallFlash }
+
+-- the sizes that a start allows, and others
+pub allowed-met : Allowed smallFlash 1 2
+unfolding smallFlash
+allowed-met =
+    record {
+      some-loader = omega arith;
+      some-application = omega arith;
+      few-blocks = omega arith;
+      sized = length-blank (startOf 2);
+    }
+
+pub not-allowed-met : Allowed smallFlash 2 2 → ⊥
+not-allowed-met h = omega (arith, h .some-application)
+
+-- addresses outside the application, on both sides of it
+pub outside-met : OutsideApp smallBoard 1023 × OutsideApp smallBoard 2048
+unfolding appEnd
+outside-met = (inl (omega arith), inr (omega arith))
+
+-- a fit session
+pub stays-fit-met : fitOf (small .session) ≡ true
+unfolding small
+stays-fit-met = fresh-fit smallBoard (freshSums smallFlash 1 2) refl
+
+abbrev pub callOf : List ℕ → List ℕ → Call
+callOf setup bytes = record { setup = setup; bytes = bytes; reply = blank 1024 }
+
+-- CLRSTATUS in state 2, a command of one byte, RESET, no setup
+abbrev pub clrstatus : Call
+clrstatus = callOf (0x21 ∷ 4 ∷ 0 ∷ 0 ∷ 0 ∷ 0 ∷ 0 ∷ 0 ∷ []) []
+
+abbrev pub oneByte : Call
+oneByte = callOf (0x21 ∷ 1 ∷ 0 ∷ 0 ∷ 0 ∷ 0 ∷ 1 ∷ 0 ∷ []) (4 ∷ [])
+
+abbrev pub resetCommand : Call
+resetCommand = callOf (0x21 ∷ 1 ∷ 0 ∷ 0 ∷ 0 ∷ 0 ∷ 8 ∷ 0 ∷ []) (7 ∷ 0 ∷ 0 ∷ 0 ∷ 0 ∷ 0 ∷ 0 ∷ 0 ∷ [])
+
+abbrev pub noSetup : Call
+noSetup = callOf [] []
+
+-- what is the same for calls with the small site
+small-sized : length (small .flash) ≡ startOf (small .session .board .b .0)
+unfolding small smallFlash freshOf
+small-sized = length-blank (startOf 2)
+
+roomy : 1024 ≤ length (blank 1024)
+roomy = omega (arith, length-blank 1024)
+
+pub prepared-met : Prepared small clrstatus
+prepared-met =
+    record {
+      setup-bytes = refl;
+      room = roomy;
+      flash-length = small-sized;
+      dnload-data = λ h. absurd (omega (arith, h .1));
+      other-data = λ _. refl;
+      rules = stays-fit-met;
+    }
+
+one-byte-prepared : Prepared small oneByte
+one-byte-prepared =
+    record {
+      setup-bytes = refl;
+      room = roomy;
+      flash-length = small-sized;
+      dnload-data = λ _. refl;
+      other-data = λ n. absurd (n (refl, refl));
+      rules = stays-fit-met;
+    }
+
+reset-prepared : Prepared small resetCommand
+reset-prepared =
+    record {
+      setup-bytes = refl;
+      room = roomy;
+      flash-length = small-sized;
+      dnload-data = λ _. refl;
+      other-data = λ n. absurd (n (refl, refl));
+      rules = stays-fit-met;
+    }
+
+pub not-prepared-met : Prepared small noSetup → ⊥
+not-prepared-met p = omega (arith, p .setup-bytes)
+
+-- a prepared call goes on to form and state
+goes-on :
+    (at : Site) (c : Call) → Prepared at c
+    → called at c
+    ≡ cond (allowedOf (requestOf (c .setup)) (wLength (c .setup)) (at .session .phase .state .0))
+    (served (requestOf (c .setup)) (at .session) (at .flash) (wLength (c .setup)) (c .bytes) (c .reply))
+    (leaves (stallOf (at .session)) (at .flash) (c .reply))
+unfolding called stepOf
+goes-on at c p = rw (prepared-ready at c p)
+
+-- each row's answer
+pub stalled-met : heard (called small clrstatus) ≡ 1
+unfolding small freshOf formOf setupOf allowedOf stallOf
+stalled-met = ap heard (goes-on small clrstatus prepared-met)
+
+pub unfit-met : heard (called small noSetup) ≡ 2
+unfit-met = unfit-exactly-holds .unprepared small noSetup not-prepared-met
+
+pub faulted-met : heard (called small oneByte) ≡ 3
+unfolding small freshOf formOf setupOf allowedOf served dnloadOf commandOf wellFormed faultOf
+faulted-met = ap heard (goes-on small oneByte one-byte-prepared)
+
+pub reset-asked-met : heard (called small resetCommand) ≡ 4
+unfolding small freshOf formOf setupOf allowedOf served dnloadOf commandOf wellFormed carriedOut resetOf
+reset-asked-met = ap heard (goes-on small resetCommand reset-prepared)
+
+-- a stall in state 10: the call after the stall above, ABORT
+abbrev pub abort : Call
+abort = callOf (0x21 ∷ 6 ∷ 0 ∷ 0 ∷ 0 ∷ 0 ∷ 0 ∷ 0 ∷ []) []
+
+stalled-once : InError (small .session) (next small clrstatus .session) 0x0F
+unfolding next small freshOf
+stalled-once = refused-holds small clrstatus .stalled stalled-met .elsewhere (λ e. omega (arith, e))
+
+abort-prepared : Prepared (next small clrstatus) abort
+abort-prepared =
+    record {
+      setup-bytes = refl;
+      room = roomy;
+      flash-length =
+          outside-holds small clrstatus .as-long
+          ∙ small-sized
+          ∙ ap (λ (b : Board). startOf (b .b .0)) (sym (stalled-once .board));
+      dnload-data = λ h. absurd (omega (arith, h .1));
+      other-data = λ _. refl;
+      rules = stays-fit-holds small clrstatus stays-fit-met;
+    }
+
+pub in-ten-met : (next small clrstatus .session .phase .state .0 ≡ 10) × (heard (called (next small clrstatus) abort) ≡ 1)
+unfolding formOf setupOf allowedOf stallOf
+in-ten-met =
+    let e = stalled-once .state in
+    (e, ap heard (goes-on (next small clrstatus) abort abort-prepared) ∙ rw e)

@@ -1,0 +1,80 @@
+-- Only the writes and the erase change flash, and each is a splice that lies in the application. Assumes nothing.
+use Prim.Native.Nat.{ℕ, _+_, _-_, _≤_, _<_}
+use mathlib.Core.Bool.{true}
+use mathlib.Core.List.{List}
+use mathlib.Core.Logic.{inl, inr, ⊎-elim}
+use mathlib.Core.Path.{_≡_, refl, ap, _∙_}
+use native.Mathlib.Omega.{arith}
+use lib.ListN.{length, getD, drop}
+use Rattle.flash.specs.Flash.{startOf, spliced, blank, erased}
+use Rattle.flash.proofs.Laws.{spliced-length, spliced-other, length-blank}
+use Rattle.session.specs.Codes.{downloadIdle}
+use Rattle.session.specs.Session.{appEnd}
+use Rattle.session.specs.Rules.{running}
+use Rattle.session.specs.declared.Board.{Board}
+use Rattle.session.specs.declared.Session.{Session}
+use Rattle.session.proofs.Laws.{fit-facts}
+use Rattle.request.specs.Request.{wordAt}
+use Rattle.moves.specs.Answers.{Leaves}
+use Rattle.command.specs.Ready.{Ready, Place}
+use Rattle.command.specs.Download.{longAt, wroteOf, infoOf, binOf}
+use Rattle.command.proofs.Laws.{ready-within, ready-place}
+use Rattle.moves.specs.Moves.{stallOf, unfitOf, faultOf, resetOf}
+use Rattle.loader.specs.Reply.{getstatusOf, getstateOf, queryOf, answered}
+use Rattle.loader.specs.Upload.{uploadOf}
+use Rattle.demands.specs.Calls.{Call, Site, called, next}
+use Rattle.demands.specs.One.{OutsideApp, Untouched, Outside}
+use Rattle.demands.proofs.Ways.{Loads, Ways, every-way}
+
+same : (b : Board) (f : List ℕ) → Untouched b f f
+same b f = record { as-long = refl; as-before = λ k o. refl }
+
+-- a splice in the application
+pub splice-untouched :
+    (s : Session) (f : List ℕ) → Ready s f → (at : ℕ) (bytes : List ℕ) → Place (s .board) at (length bytes)
+    → Untouched (s .board) f (spliced f at bytes)
+splice-untouched s f r at bytes p =
+    let w = ready-within s f r at (length bytes) p in
+    record {
+      as-long = spliced-length f at bytes (w .inside);
+      as-before = λ k o. spliced-other f at bytes (w .inside) k (⊎-elim (λ l. inl (omega arith)) (λ g. inr (omega arith)) o);
+    }
+
+-- in state download idle the next bytes lie in the application
+pub piece-place : (s : Session) (f setup : List ℕ) (n : ℕ) → Loads s f setup downloadIdle → n ≤ s .down .left → Place (s .board) (s .down .place .0) n
+piece-place s f setup n l h =
+    let fit = fit-facts s (l .fit .fit) in
+    let r : running (s .phase) ≡ true = rw (l .here) in
+    let low = fit .place-from r in
+    let high = fit .left-to r in
+    record { low = low; high = omega arith }
+
+pub outside-holds : Outside
+unfolding next called wroteOf infoOf binOf stallOf unfitOf faultOf resetOf getstatusOf getstateOf queryOf answered uploadOf erased
+outside-holds at c =
+    let s = at .session in
+    let f = at .flash in
+    every-way s f (c .setup) (c .bytes) (c .reply) (λ (l : Leaves). Untouched (s .board) f (l .flash))
+    (record {
+      unfits = λ _. same (s .board) f;
+      stalls = λ _. same (s .board) f;
+      faults = λ _ _ _. same (s .board) f;
+      programs = λ l _ i n.
+          let p = ready-place s f (l .fit) (wordAt (c .bytes) 2) (longAt (c .bytes) 4) i in
+          splice-untouched s f (l .fit) _ _ (record { low = p .low; high = omega arith });
+      pieces = λ l n. splice-untouched s f (l .fit) _ _ (piece-place s f (c .setup) _ l n);
+      closes = λ _. same (s .board) f;
+      reads = λ _ _. same (s .board) f;
+      checks = λ _. same (s .board) f;
+      erases = λ l _ i.
+          let p = ready-place s f (l .fit) (wordAt (c .bytes) 2) (startOf (wordAt (c .bytes) 4)) i in
+          splice-untouched s f (l .fit) _ _ (record { low = p .low; high = rw length-blank (p .high) });
+      informs = λ _. same (s .board) f;
+      bins = λ _. same (s .board) f;
+      resets = λ _. same (s .board) f;
+      uploads = λ _ _. same (s .board) f;
+      polls = λ _ _. same (s .board) f;
+      tells = λ _ _. same (s .board) f;
+      queries = λ _ _. same (s .board) f;
+      idles = λ _. same (s .board) f;
+    })

@@ -1,0 +1,191 @@
+-- The ways through a call: what holds of each of them holds of the call. Every demand goes by these cases, so that the tests of the
+-- step are taken apart once. Assumes nothing.
+use Prim.Native.Nat.{ℕ, _+_, _-_, _≤_}
+use mathlib.Core.Bool.{Bool, true, false, cond}
+use mathlib.Core.List.{List}
+use mathlib.Core.Logic.{⊎-elim}
+use mathlib.Core.Path.{_≡_, refl}
+use borrow.Author.Tests.{eqb-true, eqb-false, leb-true}
+use lib.Dec.{eqb, leb}
+use lib.ListN.{length, getD, drop}
+use Rattle.flash.specs.Flash.{startOf, erased}
+use Rattle.sums.specs.Sum.{refreshed}
+use Rattle.session.specs.Codes.{idle, downloadIdle, manifestSync, ok, checkErased, address, notDone, vendor}
+use Rattle.session.specs.Session.{appEnd, phaseOf, noDownload, upOf, flashStream, withUp, withSums}
+use Rattle.session.specs.Rules.{inApplication}
+use Rattle.session.specs.declared.Session.{Session}
+use Rattle.request.specs.Request.{wordAt, wLength, requestOf, allowedOf}
+use Rattle.request.specs.declared.Request.{Request}
+use Rattle.moves.specs.Answers.{Leaves, Done, done, leaves}
+use Rattle.moves.specs.Moves.{movedTo, toIdle, toSync, takenOf, stallOf, unfitOf, faultOf, resetOf}
+use Rattle.command.specs.Ready.{Ready}
+use Rattle.command.specs.Download.{longAt, prog, read, check, erase, info, bin, allErased, wroteOf, progOf, readOf, checkOf}
+use Rattle.command.specs.Download.{eraseOf, infoOf, binOf, wellFormed, carriedOut, commandOf, closedOf, pieceOf, dnloadOf}
+use Rattle.loader.specs.Reply.{getstatusOf, getstateOf, queryOf}
+use Rattle.loader.specs.Upload.{uploadOf}
+use Rattle.loader.specs.Step.{ready, withReply, withFlash, served, stepOf}
+use Rattle.loader.proofs.Laws.{ready-fit, allowed-loading}
+use Rattle.demands.specs.One.{FaultStatus, not-erased, out-of-range, bytes-missing, bad-command}
+
+-- what holds of both values of a test's pick holds of the pick
+pub pick : {A : Type 0} (P : A → Type 0) (t : Bool) (x y : A) → (t ≡ true → P x) → (t ≡ false → P y) → P (cond t x y)
+pick P true x y h k = h refl
+pick P false x y h k = k refl
+
+-- a DNLOAD that is served in a state
+pub record Loads (s : Session) (f setup : List ℕ) (state : ℕ) : Type 0 where
+  pub fit : Ready s f
+  pub asked : requestOf setup ≡ Request.Dnload
+  pub here : s .phase .state .0 ≡ state
+
+-- what an erase of blocks leaves
+abbrev pub wipedOf : Session → List ℕ → ℕ → ℕ → Done
+wipedOf s f block count =
+    done
+    (takenOf
+    (toSync
+    (withSums s
+    (refreshed (s .sums) (erased f block count) (s .board .a .0) (appEnd (s .board)) block (block + count)))
+    idle
+    noDownload))
+    (erased f block count)
+
+-- what P must hold of: each way's outcome, with what was found on the way
+pub record Ways (s : Session) (f setup d reply : List ℕ) (P : Leaves → Type 0) : Type 0 where
+  pub unfits : ready s (length f) setup (length d) (length reply) ≡ false → P (leaves (unfitOf s) f reply)
+  pub stalls : Ready s f → P (leaves (stallOf s) f reply)
+  pub faults : Ready s f → (status : ℕ) → FaultStatus status → P (leaves (faultOf s status) f reply)
+  pub programs :
+      Loads s f setup idle → getD d 0 0 ≡ prog → inApplication (s .board) (wordAt d 2) (longAt d 4) ≡ true
+      → length (drop 8 d) ≤ longAt d 4
+      → P (withReply (wroteOf s f (startOf (wordAt d 2)) (drop 8 d) (longAt d 4 - length (drop 8 d))) reply)
+  pub pieces :
+      Loads s f setup downloadIdle → length d ≤ s .down .left
+      → P (withReply (wroteOf s f (s .down .place .0) d (s .down .left - length d)) reply)
+  pub closes :
+      Loads s f setup downloadIdle
+      → P (leaves (takenOf (movedTo s (phaseOf manifestSync ok idle) noDownload)) f reply)
+  pub reads :
+      Loads s f setup idle → inApplication (s .board) (wordAt d 2) (longAt d 4) ≡ true
+      → P
+      (leaves
+      (takenOf
+      (toSync (withUp s (upOf flashStream (s .up .«prefix») (wordAt d 2) (longAt d 4) 0)) idle noDownload)) f reply)
+  pub checks : Loads s f setup idle → P (leaves (takenOf (toSync s idle noDownload)) f reply)
+  pub erases :
+      Loads s f setup idle → getD d 0 0 ≡ erase → inApplication (s .board) (wordAt d 2) (startOf (wordAt d 4)) ≡ true
+      → P (withReply (wipedOf s f (wordAt d 2) (wordAt d 4)) reply)
+  pub informs : Loads s f setup idle → P (leaves (infoOf s) f reply)
+  pub bins : Loads s f setup idle → P (leaves (binOf s (getD d 1 0)) f reply)
+  pub resets : Loads s f setup idle → P (leaves (resetOf s) f reply)
+  pub uploads :
+      Ready s f → requestOf setup ≡ Request.Upload → P (withFlash (uploadOf s f (wLength setup) reply) f)
+  pub polls : Ready s f → requestOf setup ≡ Request.GetStatus → P (withFlash (getstatusOf s reply) f)
+  pub tells : Ready s f → requestOf setup ≡ Request.GetState → P (withFlash (getstateOf s reply) f)
+  pub queries : Ready s f → requestOf setup ≡ Request.Query → P (withFlash (queryOf s reply) f)
+  pub idles : Ready s f → P (leaves (takenOf (toIdle s)) f reply)
+
+module _ (s : Session) (f setup d reply : List ℕ) (P : Leaves → Type 0) (w : Ways s f setup d reply P) where
+  AfterDone : Done → Type 0
+  AfterDone x = P (withReply x reply)
+
+  prog-ways : Loads s f setup idle → getD d 0 0 ≡ prog → AfterDone (progOf s f (wordAt d 2) (longAt d 4) (drop 8 d))
+  unfolding AfterDone progOf
+  prog-ways l c =
+      pick AfterDone (inApplication (s .board) (wordAt d 2) (longAt d 4)) _ _
+      (λ i.
+      pick AfterDone (leb (length (drop 8 d)) (longAt d 4)) _ _
+      (λ n.
+      pick AfterDone (allErased f (wordAt d 2) (longAt d 4)) _ _ (λ b. w .programs l c i (leb-true _ _ n))
+      (λ b. w .faults (l .fit) checkErased (not-erased refl)))
+      (λ n. w .faults (l .fit) address (out-of-range refl)))
+      (λ i. w .faults (l .fit) address (out-of-range refl))
+
+  read-ways : Loads s f setup idle → P (leaves (readOf s (wordAt d 2) (longAt d 4)) f reply)
+  unfolding readOf
+  read-ways l =
+      pick (λ o. P (leaves o f reply)) (inApplication (s .board) (wordAt d 2) (longAt d 4)) _ _ (λ i. w .reads l i)
+      (λ i. w .faults (l .fit) address (out-of-range refl))
+
+  check-ways : Loads s f setup idle → P (leaves (checkOf s f (wordAt d 2) (longAt d 4)) f reply)
+  unfolding checkOf
+  check-ways l =
+      pick (λ o. P (leaves o f reply)) (inApplication (s .board) (wordAt d 2) (longAt d 4)) _ _
+      (λ i.
+      pick (λ o. P (leaves o f reply)) (allErased f (wordAt d 2) (longAt d 4)) _ _ (λ b. w .checks l)
+      (λ b. w .faults (l .fit) checkErased (not-erased refl)))
+      (λ i. w .faults (l .fit) address (out-of-range refl))
+
+  erase-ways : Loads s f setup idle → getD d 0 0 ≡ erase → AfterDone (eraseOf s f (wordAt d 2) (wordAt d 4))
+  unfolding AfterDone eraseOf
+  erase-ways l c =
+      pick AfterDone (inApplication (s .board) (wordAt d 2) (startOf (wordAt d 4))) _ _ (λ i. w .erases l c i)
+      (λ i. w .faults (l .fit) address (out-of-range refl))
+
+  carried-ways : Loads s f setup idle → AfterDone (carriedOut (getD d 0 0) s f d)
+  unfolding AfterDone carriedOut
+  carried-ways l =
+      let code = getD d 0 0 in
+      pick AfterDone (eqb code prog) _ _ (λ e. prog-ways l (eqb-true _ _ e))
+      (λ _.
+      pick AfterDone (eqb code read) _ _ (λ _. read-ways l)
+      (λ _.
+      pick AfterDone (eqb code check) _ _ (λ _. check-ways l)
+      (λ _.
+      pick AfterDone (eqb code erase) _ _ (λ e. erase-ways l (eqb-true _ _ e))
+      (λ _.
+      pick AfterDone (eqb code info) _ _ (λ _. w .informs l)
+      (λ _. pick AfterDone (eqb code bin) _ _ (λ _. w .bins l) (λ _. w .resets l))))))
+
+  command-ways : Loads s f setup idle → AfterDone (commandOf s f d)
+  unfolding AfterDone commandOf
+  command-ways l =
+      pick AfterDone (wellFormed d) _ _ (λ _. carried-ways l) (λ _. w .faults (l .fit) vendor (bad-command refl))
+
+  close-ways : Loads s f setup downloadIdle → P (leaves (closedOf s) f reply)
+  unfolding closedOf
+  close-ways l =
+      pick (λ o. P (leaves o f reply)) (eqb (s .down .left) 0) _ _ (λ _. w .closes l)
+      (λ _. w .faults (l .fit) notDone (bytes-missing refl))
+
+  piece-ways : Loads s f setup downloadIdle → AfterDone (pieceOf s f d)
+  unfolding AfterDone pieceOf
+  piece-ways l =
+      pick AfterDone (eqb (length d) 0) _ _ (λ _. close-ways l)
+      (λ _.
+      pick AfterDone (leb (length d) (s .down .left)) _ _ (λ n. w .pieces l (leb-true _ _ n))
+      (λ _. w .faults (l .fit) address (out-of-range refl)))
+
+  dnload-ways :
+      Ready s f → requestOf setup ≡ Request.Dnload
+      → allowedOf Request.Dnload (wLength setup) (s .phase .state .0) ≡ true → AfterDone (dnloadOf s f d)
+  unfolding AfterDone dnloadOf
+  dnload-ways r q a =
+      pick AfterDone (eqb (s .phase .state .0) idle) _ _
+      (λ e. command-ways (record { fit = r; asked = q; here = eqb-true _ _ e }))
+      (λ n.
+      ⊎-elim (λ e. absurd (eqb-false _ _ n e)) (λ e. piece-ways (record { fit = r; asked = q; here = e }))
+      (allowed-loading s (wLength setup) a .in-two))
+
+  served-ways :
+      (q : Request) → requestOf setup ≡ q → Ready s f → allowedOf q (wLength setup) (s .phase .state .0) ≡ true
+      → P (served q s f (wLength setup) d reply)
+  unfolding served AfterDone
+  served-ways Request.Dnload e r a = dnload-ways r e a
+  served-ways Request.Upload e r a = w .uploads r e
+  served-ways Request.GetStatus e r a = w .polls r e
+  served-ways Request.ClrStatus e r a = w .idles r
+  served-ways Request.GetState e r a = w .tells r e
+  served-ways Request.Abort e r a = w .idles r
+  served-ways Request.Query e r a = w .queries r e
+  served-ways Request.Nothing e r a = w .stalls r
+
+  pub every-way : P (stepOf s f setup d reply)
+  unfolding stepOf
+  every-way =
+      pick P (ready s (length f) setup (length d) (length reply)) _ _
+      (λ r.
+      let fit = ready-fit s f setup (length d) (length reply) r in
+      pick P (allowedOf (requestOf setup) (wLength setup) (s .phase .state .0)) _ _
+      (λ a. served-ways (requestOf setup) refl fit a) (λ _. w .stalls fit))
+      (λ r. w .unfits r)

@@ -1,0 +1,168 @@
+-- Demand 1: no call touches flash that it must not, a refused call leaves what the paper says, and a fit session stays fit.
+use Prim.Native.Nat.{ℕ, _-_, _≤_, _<_}
+use mathlib.Core.Bool.{true}
+use mathlib.Core.List.{List}
+use mathlib.Core.Logic.{_⊎_}
+use mathlib.Core.Path.{_≡_}
+use lib.ListN.{length, getD}
+use Rattle.flash.specs.Flash.{startOf}
+use Rattle.sums.specs.Sum.{mostBlocks}
+use Rattle.session.specs.Session.{appEnd, zerosOf}
+use Rattle.session.specs.Rules.{fitOf}
+use Rattle.session.specs.declared.Board.{Board}
+use Rattle.session.specs.declared.Session.{Session}
+use Rattle.request.specs.Request.{wordAt}
+use Rattle.moves.specs.declared.Outcome.{Outcome}
+use Rattle.moves.specs.Answers.{Leaves, answerNumber}
+use Rattle.loader.specs.Step.{startOutcome}
+use Rattle.demands.specs.Calls.{Call, Site, called, next}
+
+-- an address in no application block: below block A's first byte, or from the application's end on
+abbrev pub OutsideApp : Board → ℕ → Type 0
+OutsideApp board k = (k < startOf (board .a .0)) ⊎ (startOf (appEnd board) ≤ k)
+
+-- g is as long as f, and every byte of it that lies in no application block is as in f
+pub record Untouched (board : Board) (f g : List ℕ) : Type 0 where
+  pub as-long : length g ≡ length f
+  pub as-before : (k : ℕ) → OutsideApp board k → getD g k 0 ≡ getD f k 0
+
+-- Outside: whatever the session, fit or not, the flash, the setup, the data and the reply buffer, a call changes no byte outside the
+-- application blocks of the session, and not the flash's length
+abbrev pub Outside : Type 0
+Outside = (at : Site) (c : Call) → Untouched (at .session .board) (at .flash) (next at c .flash)
+
+-- the number that the host hears: 0 taken, 1 stalled, 2 unfit, 3 faulted, 4 reset asked
+abbrev pub heard : Leaves → ℕ
+heard l = answerNumber (l .outcome .answer)
+
+-- what every refused call leaves: a count of 0, flash and reply untouched
+pub record Quiet (at : Site) (c : Call) (l : Leaves) : Type 0 where
+  pub count : l .outcome .count ≡ 0
+  pub flash : l .flash ≡ at .flash
+  pub reply : l .reply ≡ c .reply
+
+-- t is s gone to state 10 with a status: the state after sync is 2, the download is dropped, the upload is at its stream's first byte;
+-- A, B, part numbers, the upload's choice, prefix flag and range, and the sums stay
+pub record InError (s t : Session) (status : ℕ) : Type 0 where
+  pub board : t .board ≡ s .board
+  pub state : t .phase .state .0 ≡ 10
+  pub told : t .phase .status .0 ≡ status
+  pub after-sync : t .phase .after .0 ≡ 2
+  pub down-place : t .down .place .0 ≡ 0
+  pub down-left : t .down .left ≡ 0
+  pub choice : t .up .choice ≡ s .up .choice
+  pub prefix-flag : t .up .«prefix» ≡ s .up .«prefix»
+  pub range-first : t .up .first .0 ≡ s .up .first .0
+  pub range-length : t .up .len ≡ s .up .len
+  pub up-place : t .up .place ≡ 0
+  pub sums : t .sums ≡ s .sums
+
+-- row 1, stalled: state 10, status 0x0F; in state 10 nothing changes
+pub record Stalled (at : Site) (c : Call) (l : Leaves) : Type 0 where
+  pub quiet : Quiet at c l
+  pub in-ten : at .session .phase .state .0 ≡ 10 → l .outcome .session ≡ at .session
+  pub elsewhere : (at .session .phase .state .0 ≡ 10 → ⊥) → InError (at .session) (l .outcome .session) 0x0F
+
+-- row 2, unfit: nothing changes
+pub record Unfit (at : Site) (c : Call) (l : Leaves) : Type 0 where
+  pub quiet : Quiet at c l
+  pub session : l .outcome .session ≡ at .session
+
+-- a status that a fault can set: 05, 08, 09 or 0B
+pub data FaultStatus (n : ℕ) : Type 0 where
+  not-erased : n ≡ 0x05 → FaultStatus n
+  out-of-range : n ≡ 0x08 → FaultStatus n
+  bytes-missing : n ≡ 0x09 → FaultStatus n
+  bad-command : n ≡ 0x0B → FaultStatus n
+
+-- row 3, faulted: state 10, with a status of a fault
+pub record Faulted (at : Site) (c : Call) (l : Leaves) : Type 0 where
+  pub quiet : Quiet at c l
+  pub status : FaultStatus (l .outcome .session .phase .status .0)
+  pub in-error : InError (at .session) (l .outcome .session) (l .outcome .session .phase .status .0)
+
+-- t is as fresh, with s's A, B, part numbers and sums: state 2, status 0, no download, the flash stream with its prefix over all of the
+-- application, from its first byte
+pub record AsFresh (s t : Session) : Type 0 where
+  pub board : t .board ≡ s .board
+  pub state : t .phase .state .0 ≡ 2
+  pub status : t .phase .status .0 ≡ 0
+  pub after-sync : t .phase .after .0 ≡ 2
+  pub down-place : t .down .place .0 ≡ 0
+  pub down-left : t .down .left ≡ 0
+  pub choice : t .up .choice ≡ 0
+  pub prefix-flag : t .up .«prefix» ≡ 1
+  pub range-first : t .up .first .0 ≡ s .board .a .0
+  pub range-length : t .up .len ≡ startOf (appEnd (s .board) - s .board .a .0)
+  pub up-place : t .up .place ≡ 0
+  pub sums : t .sums ≡ s .sums
+
+-- row 4, reset asked: as fresh
+pub record ResetAsked (at : Site) (c : Call) (l : Leaves) : Type 0 where
+  pub quiet : Quiet at c l
+  pub as-fresh : AsFresh (at .session) (l .outcome .session)
+
+-- rows 1 to 4 of the answer table
+pub record Rows (at : Site) (c : Call) (l : Leaves) : Type 0 where
+  pub stalled : heard l ≡ 1 → Stalled at c l
+  pub unfit : heard l ≡ 2 → Unfit at c l
+  pub faulted : heard l ≡ 3 → Faulted at c l
+  pub reset-asked : heard l ≡ 4 → ResetAsked at c l
+
+-- Refused: each refused call leaves what its row says
+abbrev pub Refused : Type 0
+Refused = (at : Site) (c : Call) → Rows at c (called at c)
+
+-- type 0x21 and number 1, whatever the rest of the setup holds
+abbrev pub SaysDnload : List ℕ → Type 0
+SaysDnload setup = (getD setup 0 0 ≡ 0x21) × (getD setup 1 0 ≡ 1)
+
+-- what no unfit call has: 8 setup bytes, room for 1,024 reply bytes, B × 1,024 bytes of flash, wLength data bytes for DNLOAD and none
+-- otherwise, a session that keeps its rules
+pub record Prepared (at : Site) (c : Call) : Type 0 where
+  pub setup-bytes : length (c .setup) ≡ 8
+  pub room : 1024 ≤ length (c .reply)
+  pub flash-length : length (at .flash) ≡ startOf (at .session .board .b .0)
+  pub dnload-data : SaysDnload (c .setup) → length (c .bytes) ≡ wordAt (c .setup) 6
+  pub other-data : (SaysDnload (c .setup) → ⊥) → length (c .bytes) ≡ 0
+  pub rules : fitOf (at .session) ≡ true
+
+-- UnfitExactly: a call that is not so prepared is answered unfit, and no other
+pub record UnfitExactly : Type 0 where
+  pub unprepared : (at : Site) (c : Call) → (Prepared at c → ⊥) → heard (called at c) ≡ 2
+  pub prepared : (at : Site) (c : Call) → Prepared at c → heard (called at c) ≡ 2 → ⊥
+
+-- StaysFit: a fit session is handed back fit, whatever the call
+abbrev pub StaysFit : Type 0
+StaysFit = (at : Site) (c : Call) → fitOf (at .session) ≡ true → fitOf (next at c .session) ≡ true
+
+-- sizes that a start allows: 1 ≤ A < B, B at most the most blocks, and a flash of B × 1,024 bytes
+pub record Allowed (f : List ℕ) (a b : ℕ) : Type 0 where
+  pub some-loader : 1 ≤ a
+  pub some-application : a < b
+  pub few-blocks : b ≤ mostBlocks
+  pub sized : length f ≡ startOf b
+
+-- a start that is taken, with a fit session
+pub record GoodStart (o : Outcome) : Type 0 where
+  pub answer : answerNumber (o .answer) ≡ 0
+  pub count : o .count ≡ 0
+  pub fit : fitOf (o .session) ≡ true
+
+-- StartsFit: so is every start on allowed sizes
+abbrev pub StartsFit : Type 0
+StartsFit = (f : List ℕ) (a b part0 part1 : ℕ) → Allowed f a b → GoodStart (startOutcome f a b part0 part1)
+
+-- a start that is answered unfit, with the session of zeros, which every later call finds unfit, whatever flash it is lent
+pub record BadStart (o : Outcome) : Type 0 where
+  pub answer : answerNumber (o .answer) ≡ 2
+  pub count : o .count ≡ 0
+  pub session : o .session ≡ zerosOf
+  pub later-answer : (g : List ℕ) (c : Call) → heard (called (record { session = o .session; flash = g }) c) ≡ 2
+  pub later :
+      (g : List ℕ) (c : Call)
+      → Unfit (record { session = o .session; flash = g }) c (called (record { session = o .session; flash = g }) c)
+
+-- RefusedStart: so is every other start
+abbrev pub RefusedStart : Type 0
+RefusedStart = (f : List ℕ) (a b part0 part1 : ℕ) → (Allowed f a b → ⊥) → BadStart (startOutcome f a b part0 part1)

@@ -1,0 +1,99 @@
+-- Demand 3: what holds over any history, a start and then any calls.
+use Prim.Native.Nat.{ℕ, _+_, _≤_, _<_}
+use mathlib.Core.Bool.{Bool, true, false, cond, _&&_}
+use mathlib.Core.List.{List, [], _∷_}
+use mathlib.Core.Logic.{_⊎_}
+use mathlib.Core.Path.{_≡_}
+use lib.Dec.{eqb}
+use lib.ListN.{getD}
+use Rattle.flash.specs.Flash.{startOf}
+use Rattle.sums.specs.Sum.{Right}
+use Rattle.session.specs.Session.{boardOf, appEnd}
+use Rattle.session.specs.declared.Session.{Session}
+use Rattle.request.specs.Request.{wordAt, requestOf}
+use Rattle.request.specs.declared.Request.{Request}
+use Rattle.request.specs.declared.Request.the-variants.{Dnload, Upload, GetStatus, ClrStatus}
+use Rattle.request.specs.declared.Request.the-variants.{GetState, Abort, Query, Nothing}
+use Rattle.moves.specs.Answers.{Leaves}
+use Rattle.command.specs.Download.{longAt}
+use Rattle.loader.specs.Step.{startOutcome}
+use Rattle.demands.specs.Calls.{Call, Site, called, next, after}
+use Rattle.demands.specs.One.{heard, Allowed}
+
+-- the site that a start leaves: its session, and the flash that it read
+unfoldable pub begun : List ℕ → ℕ → ℕ → ℕ → ℕ → Site
+begun f a b part0 part1 = record { session = startOutcome f a b part0 part1 .session; flash = f }
+
+-- History: start on any flash of an allowed size and split, then serve any list of calls, each with the session last handed back:
+-- the kept sums are those of the flash as it now is. A list is any, so this holds after each of its calls too
+abbrev pub History : Type 0
+History =
+    (f : List ℕ) (a b part0 part1 : ℕ) → Allowed f a b → (calls : List Call)
+    → Right (after (begun f a b part0 part1) calls .session .sums) (after (begun f a b part0 part1) calls .flash) a
+    (appEnd (boardOf a b part0 part1))
+
+-- some bytes of flash that were named: where they begin, and how many they are
+pub record Named : Type 0 where
+  pub at : ℕ
+  pub size : ℕ
+
+-- no bytes
+abbrev pub none : Named
+none = record { at = 0; size = 0 }
+
+-- an address that is not among them
+abbrev pub NotNamed : Named → ℕ → Type 0
+NotNamed r k = (k < r .at) ⊎ (r .at + r .size ≤ k)
+
+-- the bytes that the commands name: PROG, number 1, the length's bytes from the block on
+abbrev pub progNames : List ℕ → Named
+progNames d = record { at = startOf (wordAt d 2); size = longAt d 4 }
+
+-- ERASE, number 4, the count's blocks
+abbrev pub eraseNames : List ℕ → Named
+eraseNames d = record { at = startOf (wordAt d 2); size = startOf (wordAt d 4) }
+
+-- no other command names bytes to be changed
+unfoldable pub commandNames : List ℕ → Named
+commandNames d = cond (eqb (getD d 0 0) 1) (progNames d) (cond (eqb (getD d 0 0) 4) (eraseNames d) none)
+
+abbrev pub isDnload : Request → Bool
+isDnload Dnload = true
+isDnload Upload = false
+isDnload GetStatus = false
+isDnload ClrStatus = false
+isDnload GetState = false
+isDnload Abort = false
+isDnload Query = false
+isDnload Nothing = false
+
+-- a DNLOAD that was taken in a state
+unfoldable pub tookDnload : ℕ → Session → Call → Leaves → Bool
+tookDnload state s c l = eqb (heard l) 0 && isDnload (requestOf (c .setup)) && eqb (s .phase .state .0) state
+
+-- the bytes that a call may change: in state 2 those that its command names, in state 5 those noted of the PROG that it continues; any
+-- other call none
+unfoldable pub mayChange : Named → Session → Call → Leaves → Named
+mayChange noted s c l =
+    cond (tookDnload 2 s c l) (commandNames (c .bytes)) (cond (tookDnload 5 s c l) noted none)
+
+-- what is noted after a call: the bytes that a PROG names that it carried out, else what was noted before
+unfoldable pub noteOf : Named → Session → Call → Leaves → Named
+noteOf noted s c l = cond (tookDnload 2 s c l && eqb (getD (c .bytes) 0 0) 1) (progNames (c .bytes)) noted
+
+-- what is noted after a list of calls
+unfoldable pub notedAfter : Named → Site → List Call → Named
+notedAfter noted at [] = noted
+notedAfter noted at (c ∷ cs) = notedAfter (noteOf noted (at .session) c (called at c)) (next at c) cs
+
+-- OnlyNamed: after a start and any calls, each call changes no byte but those named by the ERASE or PROG that it carries out, or by the
+-- PROG that it continues
+abbrev pub OnlyNamed : Type 0
+OnlyNamed =
+    (f : List ℕ) (a b part0 part1 : ℕ) → Allowed f a b → (calls : List Call) (c : Call) (k : ℕ)
+    → NotNamed
+    (mayChange (notedAfter none (begun f a b part0 part1) calls) (after (begun f a b part0 part1) calls .session) c
+    (called (after (begun f a b part0 part1) calls) c))
+    k
+    → getD (next (after (begun f a b part0 part1) calls) c .flash) k 0
+    ≡ getD (after (begun f a b part0 part1) calls .flash) k 0
