@@ -1,1 +1,4 @@
 -- What the user is promised: the proofs.
+pub mod Bytes
+pub mod TwoLaws
+pub mod TiedDesk

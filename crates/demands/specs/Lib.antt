@@ -1,2 +1,4 @@
 -- What the user is promised: the statements.
 pub mod Calls
+pub mod Two
+pub mod Tied
