@@ -1,4 +1,7 @@
 -- What the user is promised: the proofs.
 pub mod Bytes
 pub mod TwoLaws
+pub mod TwoForms
+pub mod TwoWorks
+pub mod TwoMet
 pub mod TiedDesk
