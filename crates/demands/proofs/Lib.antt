@@ -4,4 +4,5 @@ pub mod TwoLaws
 pub mod TwoForms
 pub mod TwoWorks
 pub mod TwoMet
+pub mod TwoRows
 pub mod TiedDesk

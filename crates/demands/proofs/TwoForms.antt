@@ -19,7 +19,7 @@ use Rattle.request.specs.declared.Request.{Request}
 use Rattle.request.proofs.Laws.{form-right, form-facts, dnload-asked}
 use Rattle.loader.specs.Step.{served}
 use Rattle.demands.specs.Calls.{Call, Site, called}
-use Rattle.demands.specs.Two.{Sound, Says, Form, Allowed, Asks}
+use Rattle.demands.specs.Two.{Sound, Says, Form, Allowed, Asks, Refused}
 use Rattle.demands.specs.Two.Form.{dnload, upload, getstatus, clrstatus, getstate, abort, query}
 use Rattle.demands.proofs.TwoLaws.{sound-served, sound-stalled}
 
@@ -150,9 +150,7 @@ asks-served at c r n k a =
 
 -- what no allowed request in form is leaves
 pub asks-stalled :
-    (at : Site) (c : Call) → Sound at c
-    → ((r : Request) (n : ℕ) → Form (c .setup) n r → Allowed r n (at .session .phase .state .0) → ⊥)
-    → called at c ≡ leaves (stallOf (at .session)) (at .flash) (c .reply)
+    (at : Site) (c : Call) → Sound at c → Refused at c → called at c ≡ leaves (stallOf (at .session)) (at .flash) (c .reply)
 asks-stalled at c k none = go (requestOf (c .setup)) refl (allowedOf (requestOf (c .setup)) (wLength (c .setup)) (at .session .phase .state .0)) refl
   where
     go :
