@@ -6,3 +6,5 @@ pub mod TwoWorks
 pub mod TwoMet
 pub mod TwoRows
 pub mod TiedDesk
+pub mod TiedOne
+pub mod TiedImpostors

@@ -8,7 +8,7 @@ use native.Mathlib.Omega.{arith}
 use lib.ListN.{length}
 use Rattle.flash.specs.Flash.{startOf, blank}
 use Rattle.flash.proofs.Laws.{length-blank}
-use Rattle.session.specs.Session.{boardOf, phaseOf, downOf, upOf, appEnd, streamLength}
+use Rattle.session.specs.Session.{boardOf, phaseOf, downOf, upOf, appEnd, streamLength, zerosOf}
 use Rattle.session.specs.Rules.{fitOf}
 use Rattle.session.specs.declared.Session.{Session}
 use Rattle.request.specs.Request.{setupOf, dataAsked}
@@ -18,20 +18,23 @@ use Rattle.demands.specs.Two.{Sound, Asks, Refused, StartsAt, Says, Form
 use Rattle.demands.specs.Two.Form.{dnload, upload, getstatus, clrstatus, getstate, abort, query}
 use Rattle.demands.proofs.Bytes.{blank-byte}
 
--- a session of two blocks in a state, with a download, over an erased flash
-abbrev pub small : ℕ → ℕ → ℕ → ℕ → Site
-small state status place left =
+-- a session of two blocks in a state, with a download and a place in the stream, over an erased flash
+abbrev pub placed : ℕ → ℕ → ℕ → ℕ → ℕ → Site
+placed state status place left at =
     record {
       session =
           record {
             board = boardOf 1 2 0 0;
             phase = phaseOf state status 2;
             down = downOf place left;
-            up = upOf 0 1 1 1024 0;
-            sums = record { block = []; whole = 0 };
+            up = upOf 0 1 1 1024 at;
+            sums = zerosOf .sums;
           };
       flash = blank 2048;
     }
+
+abbrev pub small : ℕ → ℕ → ℕ → ℕ → Site
+small state status place left = placed state status place left 0
 
 -- a call with a reply buffer of 1,024 bytes
 abbrev pub lent : List ℕ → List ℕ → Call

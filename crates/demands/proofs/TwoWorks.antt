@@ -207,12 +207,16 @@ module _ (at : Site) (c : Call) (k : PieceAsked at c) where
       let runs : running (s .phase) ≡ true = rw (k .loading) in
       omega (arith, fit-facts s (k .asks .sound .fit) .left-to runs, k .few, k .asks .sound .sized)
 
-  piece-done : BytesDone at c (at .session .down .place .0) (at .session .down .left) (c .bytes)
+  pub piece-leaves : called at c ≡ withReply (wroteOf (at .session) (at .flash) (at .session .down .place .0) (c .bytes) (at .session .down .left - length (c .bytes))) (c .reply)
   unfolding served
+  piece-leaves =
+      asks-served at c Request.Dnload (length (c .bytes)) (k .asks) (inr (k .loading))
+      ∙ ap (λ (d : Done). withReply d (c .reply)) (dnload-piece (at .session) (at .flash) (c .bytes) (k .loading) ∙ piece-written)
+
+  piece-done : BytesDone at c (at .session .down .place .0) (at .session .down .left) (c .bytes)
   piece-done =
       write-done at c (at .session .down .place .0) (at .session .down .left) (c .bytes) (k .asks .sound) (λ e. omega (arith, e, k .loading)) piece-fits
-      (asks-served at c Request.Dnload (length (c .bytes)) (k .asks) (inr (k .loading))
-      ∙ ap (λ (d : Done). withReply d (c .reply)) (dnload-piece (at .session) (at .flash) (c .bytes) (k .loading) ∙ piece-written))
+      piece-leaves
 
 pub ProgramWorks-holds : ProgramWorks
 ProgramWorks-holds = record { starts = prog-done; goes-on = piece-done }

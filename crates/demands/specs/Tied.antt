@@ -1,11 +1,19 @@
--- How tightly the calls are tied down: the starred desk examples.
-use Prim.Native.Nat.{ℕ, _≤_}
+-- How tightly the calls are tied down: the starred desk examples, that no second outcome fits, and the impostors.
+use Prim.Native.Nat.{ℕ, _-_, _≤_}
+use mathlib.Core.Bool.{cond, _&&_}
 use mathlib.Core.List.{List, [], _∷_, _++_}
 use mathlib.Core.Path.{_≡_}
-use lib.ListN.{length, drop}
+use lib.Dec.{eqb}
+use lib.ListN.{length, getD, drop}
 use Rattle.flash.specs.Flash.{startOf, spliced, erased}
-use Rattle.moves.specs.Answers.{answerNumber, Leaves}
-use Rattle.loader.specs.Step.{startOutcome}
+use Rattle.sums.specs.declared.Sums.{Sums}
+use Rattle.session.specs.Session.{withSums}
+use Rattle.session.specs.declared.Session.{Session}
+use Rattle.request.specs.Request.{wordAt}
+use Rattle.moves.specs.declared.Outcome.{Outcome}
+use Rattle.moves.specs.Answers.{answerNumber, Leaves, outcome, leaves}
+use Rattle.moves.specs.Moves.{takenOf, stallOf}
+use Rattle.loader.specs.Step.{startOutcome, stepOf}
 use Rattle.demands.specs.Calls.{Call, Site, called, after}
 
 -- one example: where it starts, the calls that lead up to it, the call, and what is expected of it: the answer's number, the state
@@ -140,3 +148,84 @@ abbrev pub Desk : Type 0
 Desk =
     (part0 part1 : ℕ) (flash buffer : List ℕ) → length flash ≡ startOf 64 → 1024 ≤ length buffer
     → All Expected (deskCases part0 part1 flash buffer)
+
+-- the promises of a start and of a request: one equation each, on every input
+abbrev pub StartPromise : List ℕ → ℕ → ℕ → ℕ → ℕ → Outcome → Type 0
+StartPromise flash a b part0 part1 o = o ≡ startOutcome flash a b part0 part1
+
+abbrev pub StepPromise : Session → List ℕ → List ℕ → List ℕ → List ℕ → Leaves → Type 0
+StepPromise s flash setup d reply left = left ≡ stepOf s flash setup d reply
+
+-- no second outcome fits: answer, count, session, flash and reply are determined, on the refused inputs too
+pub record OneOutcome : Type 0 where
+  pub start :
+      (flash : List ℕ) (a b part0 part1 : ℕ) (o p : Outcome) → StartPromise flash a b part0 part1 o
+      → StartPromise flash a b part0 part1 p → o ≡ p
+  pub step :
+      (s : Session) (flash setup d reply : List ℕ) (l m : Leaves) → StepPromise s flash setup d reply l
+      → StepPromise s flash setup d reply m → l ≡ m
+
+-- what could stand in the step's place, and that it keeps the step's promise on every input
+abbrev pub Step : Type 0
+Step = Session → List ℕ → List ℕ → List ℕ → List ℕ → Leaves
+
+abbrev pub Keeps : Step → Type 0
+Keeps f = (s : Session) (flash setup d reply : List ℕ) → StepPromise s flash setup d reply (f s flash setup d reply)
+
+-- one that stalls everything
+abbrev pub stallsAll : Step
+stallsAll s flash setup d reply = leaves (stallOf s) flash reply
+
+-- one with a single reply, right in all else
+unfoldable pub singleReply : List ℕ → Step
+singleReply bytes s flash setup d reply =
+    let l = stepOf s flash setup d reply in
+    leaves (outcome (l .outcome .answer) (length bytes) (l .outcome .session)) (l .flash)
+    (bytes ++ drop (length bytes) reply)
+
+-- one that says taken and does nothing
+abbrev pub doesNothing : Step
+doesNothing s flash setup d reply = leaves (takenOf s) flash reply
+
+-- one that does all in the first piece: it knows the image beforehand and stores all of it once a PROG is taken; right in all else
+unfoldable pub allAtFirst : List ℕ → Step
+allAtFirst image s flash setup d reply =
+    let l = stepOf s flash setup d reply in
+    leaves (l .outcome)
+    (cond (eqb (s .phase .state .0) 2 && eqb (l .outcome .session .phase .after .0) 5)
+    (spliced (l .flash) (startOf (wordAt d 2)) image)
+    (l .flash))
+    (l .reply)
+
+-- one that saves all for the close: no piece changes the flash, and the close stores what was held back; right in all else
+unfoldable pub allAtClose : List ℕ → Step
+allAtClose held s flash setup d reply =
+    let l = stepOf s flash setup d reply in
+    leaves (l .outcome)
+    (cond (eqb (l .outcome .session .phase .after .0) 5) flash
+    (cond (eqb (l .outcome .session .phase .state .0) 6) (spliced (l .flash) (s .down .place .0 - length held) held)
+    (l .flash)))
+    (l .reply)
+
+-- one that invents the byte count, by what was asked for alone; right in all else
+unfoldable pub inventsCount : (ℕ → ℕ) → Step
+inventsCount invented s flash setup d reply =
+    let l = stepOf s flash setup d reply in
+    leaves (outcome (l .outcome .answer) (invented (wordAt setup 6)) (l .outcome .session)) (l .flash) (l .reply)
+
+-- one with constant sums, right in all else
+unfoldable pub constantSums : Sums → Step
+constantSums sums s flash setup d reply =
+    let l = stepOf s flash setup d reply in
+    leaves (outcome (l .outcome .answer) (l .outcome .count) (withSums (l .outcome .session) sums)) (l .flash) (l .reply)
+
+-- none of them keeps the promise
+pub record Impostors : Type 0 where
+  pub stalls-everything : Keeps stallsAll → ⊥
+  pub single-reply : (bytes : List ℕ) → Keeps (singleReply bytes) → ⊥
+  pub nothing-done : Keeps doesNothing → ⊥
+  -- whatever the image, if it is more than the first byte, goes into a block and its second byte is not 0xFF
+  pub all-at-first : (image : List ℕ) → 2 ≤ length image → length image ≤ 1024 → (getD image 1 0 ≡ 0xFF → ⊥) → Keeps (allAtFirst image) → ⊥
+  pub all-at-close : (held : List ℕ) → Keeps (allAtClose held) → ⊥
+  pub invented-count : (invented : ℕ → ℕ) → Keeps (inventsCount invented) → ⊥
+  pub constant-sums : (sums : Sums) → Keeps (constantSums sums) → ⊥
