@@ -2,3 +2,5 @@
 pub mod Calls
 pub mod One
 pub mod Three
+pub mod Two
+pub mod Tied

@@ -1,0 +1,338 @@
+-- The starred examples hold: each call's outcome is computed at a session that stands written out, whatever its part numbers and sums.
+-- Assumes nothing.
+use Prim.Native.Nat.{ℕ, _+_, _≤_}
+use mathlib.Core.Bool.{true, false}
+use mathlib.Core.List.{List, [], _∷_, _++_}
+use mathlib.Core.Path.{_≡_, refl, sym, ap, subst, _∙_}
+use native.Mathlib.Omega.{arith}
+use lib.ListN.{length, drop, getD}
+use borrow.Author.Tests.{eq-eqb}
+use Rattle.flash.specs.Flash.{startOf, spliced, blank}
+use Rattle.flash.proofs.Laws.{length-blank, spliced-length}
+use Rattle.sums.specs.Sum.{refreshed, freshSums}
+use Rattle.sums.specs.declared.Sums.{Sums}
+use Rattle.session.specs.Session.{boardOf, phaseOf, downOf, upOf, appEnd, streamLength, wholeUpload, freshOf}
+use Rattle.session.specs.Rules.{fitOf}
+use Rattle.session.specs.declared.Session.{Session}
+use Rattle.request.specs.Request.{setupOf, formOf, requestOf, wLength, dataAsked, allowedOf}
+use Rattle.moves.specs.declared.Answer.{Answer}
+use Rattle.moves.specs.Answers.{Leaves, outcome, leaves}
+use Rattle.moves.specs.Moves.{movedTo, stallOf, faultOf}
+use Rattle.command.specs.Download.{allErased, sumsAfter, wroteOf, progOf, eraseOf, wellFormed, carriedOut, commandOf, closedOf, pieceOf, dnloadOf}
+use Rattle.loader.specs.Reply.{answered, entered, polled, pollTime, getstatusOf, getstateOf, queryOf}
+use Rattle.loader.specs.Step.{startable, freshStart, startOutcome, served}
+use Rattle.demands.specs.Calls.{Call, Site, called, next, after}
+use Rattle.demands.specs.Two.{Sound}
+use Rattle.demands.specs.Tied.{Case, Meets, Expected, Desk, freshSite, getStatus, getState, clrStatus, query, eraseAll, wiped, progOne, progZero, seven, close, dnload, case}
+use Rattle.demands.proofs.Bytes.{erased-length, erased-byte, erased-part, not-erased, spliced-none, spliced-byte}
+use Rattle.demands.proofs.TwoLaws.{sound-served, sound-stalled, next-from}
+
+-- an example from where its calls lead and from what its own call leaves there
+shown : (c : Case) (at : Site) (left : Leaves) → after (c .at) (c .before) ≡ at → called at (c .call) ≡ left → Meets left c → Expected c
+shown c at left e h m = subst (λ (l : Leaves). Meets l c) (sym (ap (λ (x : Site). called x (c .call)) e ∙ h)) m
+
+-- no call, and one call more
+ended : (at : Site) → after at [] ≡ at
+unfolding after
+ended at = refl
+
+onward : (at on end : Site) (c : Call) (cs : List Call) → next at c ≡ on → after on cs ≡ end → after at (c ∷ cs) ≡ end
+unfolding after
+onward at on end c cs e h = ap (λ (x : Site). after x cs) e ∙ h
+
+module _ (p q : ℕ) (f buffer : List ℕ) (sized : length f ≡ startOf 64) (room : 1024 ≤ length buffer) where
+  -- the session of the examples in a state, with a status, a state after sync, a download and its sums
+  abbrev held : ℕ → ℕ → ℕ → ℕ → ℕ → Sums → Session
+  held state status after place left sums =
+      record {
+        board = boardOf 16 64 p q;
+        phase = phaseOf state status after;
+        down = downOf place left;
+        up = upOf 0 1 16 49152 0;
+        sums = sums;
+      }
+
+  abbrev site : Session → List ℕ → Site
+  site s g = record { session = s; flash = g }
+
+  begins : freshSite p q f buffer ≡ site (held 2 0 2 0 0 (freshSums f 16 64)) f
+  unfolding startOutcome startable freshStart freshOf wholeUpload appEnd
+  begins = rw (eq-eqb _ _ sized)
+
+  -- a call at such a session, which is sound where its own numbers are
+  module _ (s : Session) (g : List ℕ) (c : Call) (b : s .board .b .0 ≡ 64) (long : length g ≡ startOf 64) (lent : c .reply ≡ buffer) (eight : length (c .setup) ≡ 8) (brought : length (c .bytes) ≡ dataAsked (c .setup)) (fit : fitOf s ≡ true) where
+    sound : Sound (site s g) c
+    sound = record { eight = eight; roomy = rw lent room; sized = rw b long; brought = brought; fit = fit }
+
+    serves : allowedOf (requestOf (c .setup)) (wLength (c .setup)) (s .phase .state .0) ≡ true → called (site s g) c ≡ served (requestOf (c .setup)) s g (wLength (c .setup)) (c .bytes) (c .reply)
+    serves = sound-served (site s g) c sound
+
+    stalls : allowedOf (requestOf (c .setup)) (wLength (c .setup)) (s .phase .state .0) ≡ false → called (site s g) c ≡ leaves (stallOf s) g (c .reply)
+    stalls = sound-stalled (site s g) c sound
+
+  -- the flash after an erase of the application, and with a zero byte at its start
+  abbrev w : List ℕ
+  w = wiped p q f buffer
+
+  abbrev z : List ℕ
+  z = spliced w (startOf 16) (0x00 ∷ [])
+
+  w-long : length w ≡ startOf 64
+  w-long = erased-length f 16 48 (omega arith) ∙ sized
+
+  z-long : length z ≡ startOf 64
+  z-long = spliced-length w (startOf 16) (0x00 ∷ []) (rw w-long (omega arith)) ∙ w-long
+
+  w-erased : (block n : ℕ) → 16 ≤ block → startOf block + n ≤ startOf 64 → allErased w block n ≡ true
+  w-erased block n low high = erased-part f 16 48 block n (omega arith) low (omega arith)
+
+  z-unerased : allErased z 16 1024 ≡ false
+  z-unerased =
+      let here : getD z (startOf 16 + 0) 0 ≡ 0 = spliced-byte w (startOf 16) (0x00 ∷ []) (rw w-long (omega arith)) 0 (omega arith) in
+      not-erased z 16 1024 (rw z-long (omega arith)) 0 (omega arith) (λ e. omega (arith, here, e))
+
+  -- where the calls lead to
+  module _ (sums : Sums) where
+    after-erase : next (site (held 2 0 2 0 0 sums) f) (eraseAll p q f buffer) ≡ site (held 3 0 2 0 0 (refreshed sums w 16 64 16 64)) w
+    unfolding fitOf streamLength appEnd dataAsked setupOf formOf allowedOf served dnloadOf commandOf wellFormed carriedOut eraseOf movedTo
+    after-erase = next-from _ _ _ (serves (held 2 0 2 0 0 sums) f (eraseAll p q f buffer) refl sized refl refl refl refl refl)
+
+    after-seven : next (site (held 2 0 2 0 0 sums) f) (seven p q f buffer) ≡ site (held 10 0x0B 2 0 0 sums) f
+    unfolding fitOf streamLength appEnd dataAsked setupOf formOf allowedOf served dnloadOf commandOf wellFormed faultOf movedTo
+    after-seven = next-from _ _ _ (serves (held 2 0 2 0 0 sums) f (seven p q f buffer) refl sized refl refl refl refl refl)
+
+    after-poll : (g : List ℕ) → length g ≡ startOf 64 → next (site (held 3 0 2 0 0 sums) g) (getStatus p q f buffer) ≡ site (held 2 0 2 0 0 sums) g
+    unfolding fitOf streamLength appEnd dataAsked setupOf formOf allowedOf served getstatusOf answered polled entered pollTime
+    after-poll g long = next-from _ _ _ (serves (held 3 0 2 0 0 sums) g (getStatus p q f buffer) refl long refl refl refl refl refl)
+
+    -- a PROG of one byte that brings none, and one that brings a zero
+    one-sums : Sums
+    one-sums = sumsAfter (boardOf 16 64 p q) sums w (startOf 16) 0
+
+    after-one : next (site (held 2 0 2 0 0 sums) w) (progOne p q f buffer) ≡ site (held 3 0 5 16384 1 one-sums) w
+    unfolding one-sums fitOf streamLength appEnd dataAsked setupOf formOf allowedOf served dnloadOf commandOf wellFormed carriedOut progOf wroteOf movedTo
+    after-one =
+        next-from _ _ (leaves (outcome Answer.Taken 0 (held 3 0 5 16384 1 one-sums)) w buffer)
+        (serves (held 2 0 2 0 0 sums) w (progOne p q f buffer) refl w-long refl refl refl refl refl
+        ∙ rw (w-erased 16 1 (omega arith) (omega arith), spliced-none w (startOf 16)))
+
+    zero-sums : Sums
+    zero-sums = sumsAfter (boardOf 16 64 p q) sums z (startOf 16) 1
+
+    after-zero : next (site (held 2 0 2 0 0 sums) w) (progZero p q f buffer) ≡ site (held 3 0 5 16385 0 zero-sums) z
+    unfolding zero-sums fitOf streamLength appEnd dataAsked setupOf formOf allowedOf served dnloadOf commandOf wellFormed carriedOut progOf wroteOf movedTo
+    after-zero =
+        next-from _ _ (leaves (outcome Answer.Taken 0 (held 3 0 5 16385 0 zero-sums)) z buffer)
+        (serves (held 2 0 2 0 0 sums) w (progZero p q f buffer) refl w-long refl refl refl refl refl
+        ∙ rw (w-erased 16 1 (omega arith) (omega arith)))
+
+    one-polled : next (site (held 3 0 5 16384 1 sums) w) (getStatus p q f buffer) ≡ site (held 5 0 2 16384 1 sums) w
+    unfolding fitOf streamLength appEnd dataAsked setupOf formOf allowedOf served getstatusOf answered polled entered pollTime
+    one-polled = next-from _ _ _ (serves (held 3 0 5 16384 1 sums) w (getStatus p q f buffer) refl w-long refl refl refl refl refl)
+
+    zero-polled : next (site (held 3 0 5 16385 0 sums) z) (getStatus p q f buffer) ≡ site (held 5 0 2 16385 0 sums) z
+    unfolding fitOf streamLength appEnd dataAsked setupOf formOf allowedOf served getstatusOf answered polled entered pollTime
+    zero-polled = next-from _ _ _ (serves (held 3 0 5 16385 0 sums) z (getStatus p q f buffer) refl z-long refl refl refl refl refl)
+
+    zero-closed : next (site (held 5 0 2 16385 0 sums) z) (close p q f buffer) ≡ site (held 6 0 2 0 0 sums) z
+    unfolding fitOf streamLength appEnd dataAsked setupOf formOf allowedOf served dnloadOf pieceOf closedOf movedTo
+    zero-closed = next-from _ _ _ (serves (held 5 0 2 16385 0 sums) z (close p q f buffer) refl z-long refl refl refl refl refl)
+
+    closed-polled : next (site (held 6 0 2 0 0 sums) z) (getStatus p q f buffer) ≡ site (held 2 0 2 0 0 sums) z
+    unfolding fitOf streamLength appEnd dataAsked setupOf formOf allowedOf served getstatusOf answered polled entered pollTime
+    closed-polled = next-from _ _ _ (serves (held 6 0 2 0 0 sums) z (getStatus p q f buffer) refl z-long refl refl refl refl refl)
+
+  -- where the examples stand: fresh, fresh with all erased, a download of one byte open, one closed, and in error
+  sums0 : Sums
+  sums0 = freshSums f 16 64
+
+  sums1 : Sums
+  sums1 = refreshed sums0 w 16 64 16 64
+
+  at-start : after (freshSite p q f buffer) [] ≡ site (held 2 0 2 0 0 sums0) f
+  unfolding after sums0
+  at-start = begins
+
+  through-erase : (cs : List Call) (end : Site) → after (site (held 2 0 2 0 0 sums1) w) cs ≡ end → after (freshSite p q f buffer) (eraseAll p q f buffer ∷ getStatus p q f buffer ∷ cs) ≡ end
+  unfolding sums0 sums1
+  through-erase cs end e =
+      onward _ _ _ _ _ (ap (λ (x : Site). next x (eraseAll p q f buffer)) begins ∙ after-erase sums0)
+      (onward _ _ _ _ _ (after-poll sums1 w w-long) e)
+
+  at-erased : after (freshSite p q f buffer) (eraseAll p q f buffer ∷ getStatus p q f buffer ∷ []) ≡ site (held 2 0 2 0 0 sums1) w
+  at-erased = through-erase [] _ (ended _)
+
+  at-one :
+      after (freshSite p q f buffer) (eraseAll p q f buffer ∷ getStatus p q f buffer ∷ progOne p q f buffer ∷ getStatus p q f buffer ∷ [])
+      ≡ site (held 5 0 2 16384 1 (one-sums sums1)) w
+  at-one = through-erase _ _ (onward _ _ _ _ _ (after-one sums1) (onward _ _ _ _ _ (one-polled (one-sums sums1)) (ended _)))
+
+  at-zero :
+      after (freshSite p q f buffer)
+      (eraseAll p q f buffer ∷ getStatus p q f buffer ∷ progZero p q f buffer ∷ getStatus p q f buffer ∷ close p q f buffer ∷ getStatus p q f buffer ∷ [])
+      ≡ site (held 2 0 2 0 0 (zero-sums sums1)) z
+  at-zero =
+      let x = zero-sums sums1 in
+      through-erase _ _
+      (onward _ _ _ _ _ (after-zero sums1)
+      (onward _ _ _ _ _ (zero-polled x) (onward _ _ _ _ _ (zero-closed x) (onward _ _ _ _ _ (closed-polled x) (ended _)))))
+
+  at-error : after (freshSite p q f buffer) (seven p q f buffer ∷ []) ≡ site (held 10 0x0B 2 0 0 sums0) f
+  unfolding sums0
+  at-error = onward _ _ _ _ _ (ap (λ (x : Site). next x (seven p q f buffer)) begins ∙ after-seven sums0) (ended _)
+
+  -- the examples
+  module _ (before : List Call) (c : Call) (answer state status : ℕ) (reply then : List ℕ) where
+    expected : (at : Site) (left : Leaves) → after (freshSite p q f buffer) before ≡ at → called at c ≡ left → Meets left (case p q f buffer before c answer state status reply then) → Expected (case p q f buffer before c answer state status reply then)
+    expected = shown (case p q f buffer before c answer state status reply then)
+
+  example-1 : Expected (case p q f buffer [] (getState p q f buffer) 0 2 0 (0x02 ∷ []) f)
+  unfolding fitOf streamLength appEnd dataAsked setupOf formOf allowedOf served getstateOf answered
+  example-1 =
+      expected _ _ _ _ _ _ _ _ _ at-start (serves (held 2 0 2 0 0 sums0) f (getState p q f buffer) refl sized refl refl refl refl refl)
+      (record { answer = refl; count = refl; state = refl; status = refl; reply = refl; flash = refl })
+
+  example-2 : Expected (case p q f buffer [] (query p q f buffer) 0 2 0 (0x4D ∷ 0x4C ∷ 0x01 ∷ 0x20 ∷ []) f)
+  unfolding fitOf streamLength appEnd dataAsked setupOf formOf allowedOf served queryOf answered
+  example-2 =
+      expected _ _ _ _ _ _ _ _ _ at-start (serves (held 2 0 2 0 0 sums0) f (query p q f buffer) refl sized refl refl refl refl refl)
+      (record { answer = refl; count = refl; state = refl; status = refl; reply = refl; flash = refl })
+
+  example-3-taken : Expected (case p q f buffer [] (eraseAll p q f buffer) 0 3 0 [] w)
+  unfolding fitOf streamLength appEnd dataAsked setupOf formOf allowedOf served dnloadOf commandOf wellFormed carriedOut eraseOf movedTo
+  example-3-taken =
+      expected _ _ _ _ _ _ _ _ _ at-start (serves (held 2 0 2 0 0 sums0) f (eraseAll p q f buffer) refl sized refl refl refl refl refl)
+      (record { answer = refl; count = refl; state = refl; status = refl; reply = refl; flash = refl })
+
+  example-3-faulted : Expected (case p q f buffer [] (dnload p q f buffer (0x04 ∷ 0x00 ∷ 0x10 ∷ 0x00 ∷ 0x31 ∷ 0x00 ∷ 0x00 ∷ 0x00 ∷ [])) 3 10 0x08 [] f)
+  unfolding fitOf streamLength appEnd dataAsked setupOf formOf allowedOf served dnloadOf commandOf wellFormed carriedOut eraseOf faultOf movedTo
+  example-3-faulted =
+      expected _ _ _ _ _ _ _ _ _ at-start (serves (held 2 0 2 0 0 sums0) f (dnload p q f buffer (0x04 ∷ 0x00 ∷ 0x10 ∷ 0x00 ∷ 0x31 ∷ 0x00 ∷ 0x00 ∷ 0x00 ∷ [])) refl sized refl refl refl refl refl)
+      (record { answer = refl; count = refl; state = refl; status = refl; reply = refl; flash = refl })
+
+  example-4 : Expected (case p q f buffer [] (dnload p q f buffer (0x04 ∷ 0x00 ∷ 0x0F ∷ 0x00 ∷ 0x01 ∷ 0x00 ∷ 0x00 ∷ 0x00 ∷ [])) 3 10 0x08 [] f)
+  unfolding fitOf streamLength appEnd dataAsked setupOf formOf allowedOf served dnloadOf commandOf wellFormed carriedOut eraseOf faultOf movedTo
+  example-4 =
+      expected _ _ _ _ _ _ _ _ _ at-start (serves (held 2 0 2 0 0 sums0) f (dnload p q f buffer (0x04 ∷ 0x00 ∷ 0x0F ∷ 0x00 ∷ 0x01 ∷ 0x00 ∷ 0x00 ∷ 0x00 ∷ [])) refl sized refl refl refl refl refl)
+      (record { answer = refl; count = refl; state = refl; status = refl; reply = refl; flash = refl })
+
+  example-5-taken : Expected (case p q f buffer (eraseAll p q f buffer ∷ getStatus p q f buffer ∷ []) (dnload p q f buffer (0x01 ∷ 0x00 ∷ 0x3F ∷ 0x00 ∷ 0x00 ∷ 0x04 ∷ 0x00 ∷ 0x00 ∷ [])) 0 3 0 [] w)
+  unfolding fitOf streamLength appEnd dataAsked setupOf formOf allowedOf served dnloadOf commandOf wellFormed carriedOut progOf wroteOf movedTo
+  example-5-taken =
+      expected _ _ _ _ _ _ _ _ (leaves (outcome Answer.Taken 0 (held 3 0 5 64512 1024 (sumsAfter (boardOf 16 64 p q) sums1 w (startOf 63) 0))) w buffer) at-erased (serves (held 2 0 2 0 0 sums1) w (dnload p q f buffer (0x01 ∷ 0x00 ∷ 0x3F ∷ 0x00 ∷ 0x00 ∷ 0x04 ∷ 0x00 ∷ 0x00 ∷ [])) refl w-long refl refl refl refl refl ∙ rw (w-erased 63 1024 (omega arith) (omega arith), spliced-none w (startOf 63)))
+      (record { answer = refl; count = refl; state = refl; status = refl; reply = refl; flash = refl })
+
+  example-5-faulted : Expected (case p q f buffer (eraseAll p q f buffer ∷ getStatus p q f buffer ∷ []) (dnload p q f buffer (0x01 ∷ 0x00 ∷ 0x3F ∷ 0x00 ∷ 0x01 ∷ 0x04 ∷ 0x00 ∷ 0x00 ∷ [])) 3 10 0x08 [] w)
+  unfolding fitOf streamLength appEnd dataAsked setupOf formOf allowedOf served dnloadOf commandOf wellFormed carriedOut progOf faultOf movedTo
+  example-5-faulted =
+      expected _ _ _ _ _ _ _ _ _ at-erased (serves (held 2 0 2 0 0 sums1) w (dnload p q f buffer (0x01 ∷ 0x00 ∷ 0x3F ∷ 0x00 ∷ 0x01 ∷ 0x04 ∷ 0x00 ∷ 0x00 ∷ [])) refl w-long refl refl refl refl refl)
+      (record { answer = refl; count = refl; state = refl; status = refl; reply = refl; flash = refl })
+
+  example-6-none : Expected (case p q f buffer [] (dnload p q f buffer (0x01 ∷ 0x00 ∷ 0x10 ∷ 0x00 ∷ 0x00 ∷ 0x00 ∷ 0x00 ∷ 0x00 ∷ [])) 3 10 0x08 [] f)
+  unfolding fitOf streamLength appEnd dataAsked setupOf formOf allowedOf served dnloadOf commandOf wellFormed carriedOut progOf faultOf movedTo
+  example-6-none =
+      expected _ _ _ _ _ _ _ _ _ at-start (serves (held 2 0 2 0 0 sums0) f (dnload p q f buffer (0x01 ∷ 0x00 ∷ 0x10 ∷ 0x00 ∷ 0x00 ∷ 0x00 ∷ 0x00 ∷ 0x00 ∷ [])) refl sized refl refl refl refl refl)
+      (record { answer = refl; count = refl; state = refl; status = refl; reply = refl; flash = refl })
+
+  example-6-huge : Expected (case p q f buffer [] (dnload p q f buffer (0x01 ∷ 0x00 ∷ 0x10 ∷ 0x00 ∷ 0xFF ∷ 0xFF ∷ 0xFF ∷ 0xFF ∷ [])) 3 10 0x08 [] f)
+  unfolding fitOf streamLength appEnd dataAsked setupOf formOf allowedOf served dnloadOf commandOf wellFormed carriedOut progOf faultOf movedTo
+  example-6-huge =
+      expected _ _ _ _ _ _ _ _ _ at-start (serves (held 2 0 2 0 0 sums0) f (dnload p q f buffer (0x01 ∷ 0x00 ∷ 0x10 ∷ 0x00 ∷ 0xFF ∷ 0xFF ∷ 0xFF ∷ 0xFF ∷ [])) refl sized refl refl refl refl refl)
+      (record { answer = refl; count = refl; state = refl; status = refl; reply = refl; flash = refl })
+
+  example-7-faulted : Expected (case p q f buffer [] (seven p q f buffer) 3 10 0x0B [] f)
+  unfolding fitOf streamLength appEnd dataAsked setupOf formOf allowedOf served dnloadOf commandOf wellFormed carriedOut faultOf movedTo
+  example-7-faulted =
+      expected _ _ _ _ _ _ _ _ _ at-start (serves (held 2 0 2 0 0 sums0) f (seven p q f buffer) refl sized refl refl refl refl refl)
+      (record { answer = refl; count = refl; state = refl; status = refl; reply = refl; flash = refl })
+
+  example-7-status : Expected (case p q f buffer (seven p q f buffer ∷ []) (getStatus p q f buffer) 0 10 0x0B (0x0B ∷ 0x00 ∷ 0x00 ∷ 0x00 ∷ 0x0A ∷ 0x00 ∷ []) f)
+  unfolding fitOf streamLength appEnd dataAsked setupOf formOf allowedOf served getstatusOf answered polled entered pollTime
+  example-7-status =
+      expected _ _ _ _ _ _ _ _ _ at-error (serves (held 10 0x0B 2 0 0 sums0) f (getStatus p q f buffer) refl sized refl refl refl refl refl)
+      (record { answer = refl; count = refl; state = refl; status = refl; reply = refl; flash = refl })
+
+  example-8 : Expected (case p q f buffer [] (close p q f buffer) 1 10 0x0F [] f)
+  unfolding fitOf streamLength appEnd dataAsked setupOf formOf allowedOf served stallOf movedTo
+  example-8 =
+      expected _ _ _ _ _ _ _ _ _ at-start (stalls (held 2 0 2 0 0 sums0) f (close p q f buffer) refl sized refl refl refl refl refl)
+      (record { answer = refl; count = refl; state = refl; status = refl; reply = refl; flash = refl })
+
+  example-9 : Expected (case p q f buffer (eraseAll p q f buffer ∷ getStatus p q f buffer ∷ progOne p q f buffer ∷ getStatus p q f buffer ∷ []) (close p q f buffer) 3 10 0x09 [] w)
+  unfolding fitOf streamLength appEnd dataAsked setupOf formOf allowedOf served dnloadOf pieceOf closedOf faultOf movedTo
+  example-9 =
+      expected _ _ _ _ _ _ _ _ _ at-one (serves (held 5 0 2 16384 1 (one-sums sums1)) w (close p q f buffer) refl w-long refl refl refl refl refl)
+      (record { answer = refl; count = refl; state = refl; status = refl; reply = refl; flash = refl })
+
+  example-10 : Expected (case p q f buffer (eraseAll p q f buffer ∷ getStatus p q f buffer ∷ progZero p q f buffer ∷ getStatus p q f buffer ∷ close p q f buffer ∷ getStatus p q f buffer ∷ []) (dnload p q f buffer (0x01 ∷ 0x00 ∷ 0x10 ∷ 0x00 ∷ 0x00 ∷ 0x04 ∷ 0x00 ∷ 0x00 ∷ [])) 3 10 0x05 [] z)
+  unfolding fitOf streamLength appEnd dataAsked setupOf formOf allowedOf served dnloadOf commandOf wellFormed carriedOut progOf faultOf movedTo
+  example-10 =
+      expected _ _ _ _ _ _ _ _ (leaves (outcome Answer.Faulted 0 (held 10 0x05 2 0 0 (zero-sums sums1))) z buffer) at-zero (serves (held 2 0 2 0 0 (zero-sums sums1)) z (dnload p q f buffer (0x01 ∷ 0x00 ∷ 0x10 ∷ 0x00 ∷ 0x00 ∷ 0x04 ∷ 0x00 ∷ 0x00 ∷ [])) refl z-long refl refl refl refl refl ∙ rw z-unerased)
+      (record { answer = refl; count = refl; state = refl; status = refl; reply = refl; flash = refl })
+
+  example-11-cleared : Expected (case p q f buffer (seven p q f buffer ∷ []) (clrStatus p q f buffer) 0 2 0 [] f)
+  unfolding fitOf streamLength appEnd dataAsked setupOf formOf allowedOf served movedTo
+  example-11-cleared =
+      expected _ _ _ _ _ _ _ _ _ at-error (serves (held 10 0x0B 2 0 0 sums0) f (clrStatus p q f buffer) refl sized refl refl refl refl refl)
+      (record { answer = refl; count = refl; state = refl; status = refl; reply = refl; flash = refl })
+
+  example-11-stalled : Expected (case p q f buffer [] (clrStatus p q f buffer) 1 10 0x0F [] f)
+  unfolding fitOf streamLength appEnd dataAsked setupOf formOf allowedOf served stallOf movedTo
+  example-11-stalled =
+      expected _ _ _ _ _ _ _ _ _ at-start (stalls (held 2 0 2 0 0 sums0) f (clrStatus p q f buffer) refl sized refl refl refl refl refl)
+      (record { answer = refl; count = refl; state = refl; status = refl; reply = refl; flash = refl })
+
+pub Desk-holds : Desk
+Desk-holds p q f buffer sized room = (
+  example-1 p q f buffer sized room,
+  (
+    example-2 p q f buffer sized room,
+    (
+      example-3-taken p q f buffer sized room,
+      (
+        example-3-faulted p q f buffer sized room,
+        (
+          example-4 p q f buffer sized room,
+          (
+            example-5-taken p q f buffer sized room,
+            (
+              example-5-faulted p q f buffer sized room,
+              (
+                example-6-none p q f buffer sized room,
+                (
+                  example-6-huge p q f buffer sized room,
+                  (
+                    example-7-faulted p q f buffer sized room,
+                    (
+                      example-7-status p q f buffer sized room,
+                      (
+                        example-8 p q f buffer sized room,
+                        (
+                          example-9 p q f buffer sized room,
+                          (
+                            example-10 p q f buffer sized room,
+                            (
+                              example-11-cleared p q f buffer sized room,
+                              (
+                                example-11-stalled p q f buffer sized room,
+                                tt,
+                              ),
+                            ),
+                          ),
+                        ),
+                      ),
+                    ),
+                  ),
+                ),
+              ),
+            ),
+          ),
+        ),
+      ),
+    ),
+  ),
+)
+
+-- a flash and a reply buffer as the examples ask for them
+pub Desk-met : (flash : List ℕ) × (buffer : List ℕ) × (length flash ≡ startOf 64) × (1024 ≤ length buffer)
+Desk-met = (blank (startOf 64), blank 1024, length-blank (startOf 64), rw (length-blank 1024) (omega arith))

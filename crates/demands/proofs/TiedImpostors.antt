@@ -1,0 +1,216 @@
+-- No impostor keeps the promise: demand 2's tables, ERASE, PROG and the pieces reject all but the last, and the CRC that one.
+-- Assumes nothing.
+use Prim.Native.Nat.{ℕ, _+_, _-_, _≤_, _<_, min}
+use mathlib.Core.Bool.{Bool, true, cond, _&&_}
+use mathlib.Core.List.{List, [], _∷_, _++_}
+use mathlib.Core.Logic.{_⊎_, inl, inr}
+use mathlib.Core.Path.{_≡_, refl, sym, ap, ap₂, _∙_}
+use native.Mathlib.Omega.{arith}
+use lib.Bits.{bitXor, xor-self}
+use lib.Dec.{eqb}
+use lib.ListN.{length, getD, take, drop}
+use lib.Seq.{take-add, drop-drop}
+use borrow.Author.Tests.{eq-eqb}
+use Rattle.crc.specs.Crc.{start, bitStep, bitSteps, byteStep, crcFrom, crcOf}
+use Rattle.crc.proofs.Bits.{xor-swap}
+use Rattle.crc.proofs.Laws.{crc-append, bits-xor}
+use Rattle.flash.specs.Flash.{startOf, range, spliced, blank}
+use Rattle.flash.proofs.Laws.{length-blank, spliced-from, spliced-apart}
+use Rattle.sums.specs.Sum.{blocksOf, wholeSum, refreshed}
+use Rattle.sums.specs.declared.Sums.{Sums}
+use Rattle.session.specs.Session.{appEnd, streamLength}
+use Rattle.session.specs.Rules.{fitOf}
+use Rattle.session.specs.declared.Session.{Session}
+use Rattle.request.specs.Request.{setupOf, dataAsked}
+use Rattle.request.specs.declared.Request.{Request}
+use Rattle.moves.specs.Answers.{Leaves, answerNumber}
+use Rattle.moves.specs.Moves.{stallOf, movedTo}
+use Rattle.command.specs.Download.{sumsAfter, wroteOf}
+use Rattle.loader.specs.Step.{stepOf}
+use Rattle.demands.specs.Calls.{Call, Site, called}
+use Rattle.demands.specs.Two.{Asks, StartsAt, PieceAsked}
+use Rattle.demands.specs.Two.Form.{dnload, upload}
+use Rattle.demands.specs.Tied.{Step, Keeps, stallsAll, singleReply, doesNothing, allAtFirst, allAtClose, inventsCount, constantSums, Impostors}
+use Rattle.demands.proofs.Bytes.{blank-byte, spliced-byte}
+use Rattle.demands.proofs.TwoWorks.{EraseWorks-holds, ProgramWorks-holds, piece-leaves}
+use Rattle.demands.proofs.TwoRows.{Rows-hold}
+use Rattle.demands.proofs.TwoMet.{small, placed, lent, setups, brings, so, small-sound, getstate-met, query-met, EraseWorks-met, ProgramWorks-met-start}
+
+-- what an impostor that keeps the promise leaves at a call
+at-call : (f : Step) → Keeps f → (at : Site) (c : Call) → f (at .session) (at .flash) (c .setup) (c .bytes) (c .reply) ≡ called at c
+unfolding called
+at-call f k at c = k (at .session) (at .flash) (c .setup) (c .bytes) (c .reply)
+
+-- the calls at which they differ
+abbrev state-call : Call
+state-call = lent (setups 0xA1 5 0 1 0) []
+
+abbrev query-call : Call
+query-call = lent (setups 0xA1 0x42 0x23 4 0) []
+
+abbrev erase-call : Call
+erase-call = brings (4 ∷ 0 ∷ 1 ∷ 0 ∷ 1 ∷ 0 ∷ 0 ∷ 0 ∷ [])
+
+abbrev prog-call : Call
+prog-call = brings (1 ∷ 0 ∷ 1 ∷ 0 ∷ 2 ∷ 0 ∷ 0 ∷ 0 ∷ 7 ∷ [])
+
+abbrev upload-call : Call
+upload-call = lent (setups 0xA1 2 0 0xE8 3) []
+
+stalls-not : Keeps stallsAll → ⊥
+unfolding stallOf
+stalls-not k =
+    let e = ap (λ (l : Leaves). answerNumber (l .outcome .answer)) (at-call stallsAll k (small 2 0 0 0) state-call) in
+    omega (arith, e ∙ Rows-hold .getstate (small 2 0 0 0) state-call getstate-met .answers .answer)
+
+module _ (bytes : List ℕ) (k : Keeps (singleReply bytes)) where
+  counts : (at : Site) (c : Call) → length bytes ≡ called at c .outcome .count
+  unfolding singleReply
+  counts at c = ap (λ (l : Leaves). l .outcome .count) (at-call (singleReply bytes) k at c)
+
+  replies-not : ⊥
+  replies-not =
+      let one = counts (small 2 0 0 0) state-call ∙ Rows-hold .getstate (small 2 0 0 0) state-call getstate-met .answers .count in
+      let four = counts (small 10 0x0F 0 0) query-call ∙ Rows-hold .query (small 10 0x0F 0 0) query-call query-met .answers .count in
+      omega arith
+
+nothing-not : Keeps doesNothing → ⊥
+nothing-not k =
+    let e = ap (λ (l : Leaves). l .outcome .session .phase .state .0) (at-call doesNothing k (small 2 0 0 0) erase-call) in
+    omega (arith, e ∙ EraseWorks-holds (small 2 0 0 0) erase-call 1 1 EraseWorks-met .enters .state)
+
+-- PROG of two bytes that brings the first of them: the byte is there, and the second place is as before
+module _ (image : List ℕ) (more : 2 ≤ length image) (few : length image ≤ 1024) (other : getD image 1 0 ≡ 0xFF → ⊥) (k : Keeps (allAtFirst image)) where
+  first-flash : List ℕ
+  first-flash = called (small 2 0 0 0) prog-call .flash
+
+  first-stored : spliced first-flash 1024 image ≡ first-flash
+  unfolding allAtFirst first-flash called
+  first-stored =
+      let leads = ProgramWorks-holds .starts (small 2 0 0 0) prog-call 1 2 (7 ∷ []) ProgramWorks-met-start .enters .leads in
+      sym
+      (ap (λ (n : ℕ). cond (eqb n 5) (spliced first-flash 1024 image) first-flash) leads)
+      ∙ ap (λ (l : Leaves). l .flash) (at-call (allAtFirst image) k (small 2 0 0 0) prog-call)
+
+  first-not : ⊥
+  unfolding first-flash
+  first-not =
+      let w = ProgramWorks-holds .starts (small 2 0 0 0) prog-call 1 2 (7 ∷ []) ProgramWorks-met-start .flash in
+      let long : length first-flash ≡ 2048 = w .as-long ∙ length-blank 2048 in
+      let kept : getD first-flash 1025 0 ≡ 255 = w .outside 1025 (inr (omega arith)) ∙ blank-byte 2048 1025 (omega arith) in
+      let stored : getD (spliced first-flash 1024 image) 1025 0 ≡ getD image 1 0 = spliced-byte first-flash 1024 image (omega arith) 1 more in
+      other (sym stored ∙ ap (λ (l : List ℕ). getD l 1025 0) first-stored ∙ kept)
+
+module _ (held : List ℕ) (k : Keeps (allAtClose held)) where
+  close-kept : blank 2048 ≡ called (small 2 0 0 0) prog-call .flash
+  unfolding allAtClose called
+  close-kept =
+      let l = called (small 2 0 0 0) prog-call in
+      let leads = ProgramWorks-holds .starts (small 2 0 0 0) prog-call 1 2 (7 ∷ []) ProgramWorks-met-start .enters .leads in
+      sym
+      (ap
+      (λ (n : ℕ).
+      cond (eqb n 5) (blank 2048)
+      (cond (eqb (l .outcome .session .phase .state .0) 6) (spliced (l .flash) (0 - length held) held) (l .flash)))
+      leads)
+      ∙ ap (λ (m : Leaves). m .flash) (at-call (allAtClose held) k (small 2 0 0 0) prog-call)
+
+  close-not : ⊥
+  close-not =
+      let w = ProgramWorks-holds .starts (small 2 0 0 0) prog-call 1 2 (7 ∷ []) ProgramWorks-met-start .flash in
+      let there : getD (called (small 2 0 0 0) prog-call .flash) 1024 0 ≡ 7 = w .inside 0 (omega arith) in
+      let blanked = ap (λ (l : List ℕ). getD l 1024 0) close-kept in
+      omega (arith, sym (blank-byte 2048 1024 (omega arith)) ∙ blanked ∙ there)
+
+-- the same request at the stream's start and near its end
+upload-asks : (state place : ℕ) → fitOf (placed state 0 0 0 place .session) ≡ true → Asks (placed state 0 0 0 place) upload-call Request.Upload 1000
+unfolding dataAsked setupOf
+upload-asks state place fit =
+    record {
+      sound = small-sound (placed state 0 0 0 place .session) _ _ refl refl refl fit;
+      form = upload (so _ _ _ _ _) (omega arith) (omega arith);
+    }
+
+module _ (invented : ℕ → ℕ) (k : Keeps (inventsCount invented)) where
+  invents : (state place : ℕ) → fitOf (placed state 0 0 0 place .session) ≡ true → StartsAt (placed state 0 0 0 place) place → invented 1000 ≡ min 1000 (1032 - place)
+  unfolding inventsCount streamLength
+  invents state place fit starts =
+      let at = placed state 0 0 0 place in
+      let asks = upload-asks state place fit in
+      ap (λ (l : Leaves). l .outcome .count) (at-call (inventsCount invented) k at upload-call)
+      ∙ Rows-hold .upload-ends at upload-call 1000 place asks starts (omega arith) .answers .count
+      ∙ Rows-hold .upload-count at upload-call 1000 place asks starts
+
+  invents-not : ⊥
+  unfolding fitOf streamLength appEnd
+  invents-not = omega (arith, invents 2 0 refl (inl (refl, refl)), invents 9 1000 refl (inr (refl, refl)))
+
+-- the last byte of the application tells in the sum of the whole: 0 and 255 make two sums
+last-tells : (c : ℕ) → byteStep c 0 ≡ byteStep c 255 → ⊥
+unfolding byteStep bitSteps bitStep
+last-tells c e =
+    let joint : bitSteps 8 (bitXor (bitXor c 0) (bitXor c 255)) ≡ bitXor (byteStep c 0) (byteStep c 255) = bits-xor 8 (bitXor c 0) (bitXor c 255) in
+    let same : bitXor (byteStep c 0) (byteStep c 255) ≡ 0 = ap (λ (x : ℕ). bitXor x (byteStep c 255)) e ∙ xor-self (byteStep c 255) in
+    let apart : bitXor (bitXor c 0) (bitXor c 255) ≡ 255 = xor-swap c 0 c 255 ∙ ap (λ (x : ℕ). bitXor x 255) (xor-self c) in
+    let some : bitSteps 8 255 ≡ 0 = sym (ap (bitSteps 8) apart) ∙ joint ∙ same in
+    omega (arith, some)
+
+abbrev last-call : ℕ → Call
+last-call x = brings (x ∷ [])
+
+-- the application with another last byte
+last-flash : ℕ → List ℕ
+last-flash x = spliced (blank 2048) 2047 (x ∷ [])
+
+last-sum : (x : ℕ) → wholeSum (last-flash x) 1 2 ≡ byteStep (crcOf (range (blank 2048) 1024 1023)) x
+unfolding wholeSum blocksOf range crcOf crcFrom last-flash
+last-sum x =
+    let f = blank 2048 in
+    let g = spliced f 2047 (x ∷ []) in
+    let fits : 2047 + length (x ∷ []) ≤ length f = omega (arith, length-blank 2048) in
+    let front : take 1023 (drop 1024 g) ≡ take 1023 (drop 1024 f) = spliced-apart f 2047 (x ∷ []) fits 1024 1023 (inl (omega arith)) in
+    let back : take 1 (drop 1023 (drop 1024 g)) ≡ x ∷ [] = ap (take 1) (drop-drop 1023 1024 g ∙ spliced-from f 2047 (x ∷ []) fits) in
+    ap (crcFrom start) (take-add 1023 1 (drop 1024 g) ∙ ap₂ _++_ front back)
+    ∙ crc-append start (take 1023 (drop 1024 f)) (x ∷ [])
+
+last-asked : (x : ℕ) → PieceAsked (small 5 0 2047 1) (last-call x)
+unfolding fitOf streamLength appEnd dataAsked setupOf
+last-asked x =
+    record {
+      asks =
+          record {
+            sound = small-sound (small 5 0 2047 1 .session) _ _ refl refl refl refl;
+            form = dnload (so _ _ _ _ _) (omega arith);
+          };
+      loading = refl;
+      some = omega arith;
+      few = omega arith;
+    }
+
+-- what is kept after the last byte
+last-kept : (x : ℕ) → called (small 5 0 2047 1) (last-call x) .outcome .session .sums .whole ≡ wholeSum (last-flash x) 1 2
+unfolding wroteOf movedTo sumsAfter refreshed appEnd last-flash
+last-kept x = ap (λ (l : Leaves). l .outcome .session .sums .whole) (piece-leaves (small 5 0 2047 1) (last-call x) (last-asked x))
+
+module _ (sums : Sums) (k : Keeps (constantSums sums)) where
+  constant : (x : ℕ) → sums .whole ≡ byteStep (crcOf (range (blank 2048) 1024 1023)) x
+  unfolding constantSums
+  constant x =
+      ap (λ (l : Leaves). l .outcome .session .sums .whole) (at-call (constantSums sums) k (small 5 0 2047 1) (last-call x))
+      ∙ last-kept x
+      ∙ last-sum x
+
+  constant-not : ⊥
+  constant-not = last-tells (crcOf (range (blank 2048) 1024 1023)) (sym (constant 0) ∙ constant 255)
+
+pub Impostors-fail : Impostors
+Impostors-fail =
+    record {
+      stalls-everything = stalls-not;
+      single-reply = replies-not;
+      nothing-done = nothing-not;
+      all-at-first = first-not;
+      all-at-close = close-not;
+      invented-count = invents-not;
+      constant-sums = constant-not;
+    }

@@ -1,0 +1,218 @@
+-- Demand 2, but for reading back: what is asked for in form and in a state that allows it is done, and anything else is stalled.
+use Prim.Native.Nat.{ℕ, _+_, _-_, _≤_, _<_, min}
+use mathlib.Core.Bool.{true}
+use mathlib.Core.List.{List, [], _∷_, _++_}
+use mathlib.Core.Logic.{_⊎_}
+use mathlib.Core.Path.{_≡_}
+use lib.ListN.{length, getD, take, drop}
+use Rattle.flash.specs.Flash.{startOf}
+use Rattle.session.specs.Session.{downOf, upOf, streamLength}
+use Rattle.session.specs.Rules.{fitOf}
+use Rattle.session.specs.declared.Session.{Session}
+use Rattle.request.specs.Request.{wordAt, dataAsked}
+use Rattle.request.specs.declared.Request.{Request}
+use Rattle.stream.specs.Stream.{streamOf}
+use Rattle.command.specs.Download.{longAt}
+use Rattle.moves.specs.Answers.{answerNumber}
+use Rattle.demands.specs.Calls.{Call, Site, called}
+
+-- a call that isn't unfit: 8 setup bytes, a reply room of 1,024, the flash's length, as many data bytes as the setup speaks of for
+-- DNLOAD and none otherwise, a session that keeps its rules
+pub record Sound (at : Site) (c : Call) : Type 0 where
+  pub eight : length (c .setup) ≡ 8
+  pub roomy : 1024 ≤ length (c .reply)
+  pub sized : length (at .flash) ≡ startOf (at .session .board .b .0)
+  pub brought : length (c .bytes) ≡ dataAsked (c .setup)
+  pub fit : fitOf (at .session) ≡ true
+
+-- what setup bytes say: type, number, wIndex 0, and n for wLength; wValue is left open
+pub record Says (setup : List ℕ) (type number n : ℕ) : Type 0 where
+  pub typed : getD setup 0 0 ≡ type
+  pub numbered : getD setup 1 0 ≡ number
+  pub no-index : wordAt setup 4 ≡ 0
+  pub long : wordAt setup 6 ≡ n
+
+-- the form table: each request by type, number and wLength, the query also by wValue
+pub data Form (setup : List ℕ) (n : ℕ) : Request → Type 0 where
+  dnload : Says setup 0x21 1 n → n ≤ 1024 → Form setup n Request.Dnload
+  upload : Says setup 0xA1 2 n → 1 ≤ n → n ≤ 1024 → Form setup n Request.Upload
+  getstatus : Says setup 0xA1 3 n → n ≡ 6 → Form setup n Request.GetStatus
+  clrstatus : Says setup 0x21 4 n → n ≡ 0 → Form setup n Request.ClrStatus
+  getstate : Says setup 0xA1 5 n → n ≡ 1 → Form setup n Request.GetState
+  abort : Says setup 0x21 6 n → n ≡ 0 → Form setup n Request.Abort
+  query : Says setup 0xA1 0x42 n → n ≡ 4 → wordAt setup 2 ≡ 0x23 → Form setup n Request.Query
+
+-- its last column: the states that allow a request of n bytes
+abbrev pub Allowed : Request → ℕ → ℕ → Type 0
+Allowed Request.Dnload n state = ((state ≡ 2) × (0 < n)) ⊎ (state ≡ 5)
+Allowed Request.Upload n state = (state ≡ 2) ⊎ (state ≡ 9)
+Allowed Request.GetStatus n state = Unit
+Allowed Request.ClrStatus n state = state ≡ 10
+Allowed Request.GetState n state = Unit
+Allowed Request.Abort n state = state ≡ 10 → ⊥
+Allowed Request.Query n state = Unit
+Allowed Request.Nothing n state = ⊥
+
+-- a sound call that is a request in form
+pub record Asks (at : Site) (c : Call) (r : Request) (n : ℕ) : Type 0 where
+  pub sound : Sound at c
+  pub form : Form (c .setup) n r
+
+-- a call that is no request in form which the state allows
+abbrev pub Refused : Site → Call → Type 0
+Refused at c = (r : Request) (n : ℕ) → Form (c .setup) n r → Allowed r n (at .session .phase .state .0) → ⊥
+
+-- what the host hears: the answer's number, and so many bytes at the front of the reply, the rest of it untouched
+pub record Answers (at : Site) (c : Call) (number : ℕ) (bytes : List ℕ) : Type 0 where
+  pub answer : answerNumber (called at c .outcome .answer) ≡ number
+  pub count : called at c .outcome .count ≡ length bytes
+  pub reply : called at c .reply ≡ bytes ++ drop (length bytes) (c .reply)
+
+-- the session handed back: its state, its status and its state after sync; A, B and the part numbers are kept
+pub record Enters (at : Site) (c : Call) (n status after : ℕ) : Type 0 where
+  pub state : called at c .outcome .session .phase .state .0 ≡ n
+  pub says : called at c .outcome .session .phase .status .0 ≡ status
+  pub leads : called at c .outcome .session .phase .after .0 ≡ after
+  pub board : called at c .outcome .session .board ≡ at .session .board
+
+-- a flash in which n bytes from an address on are new, and all others as before
+pub record Rewritten (before after : List ℕ) (from n : ℕ) (byte : ℕ → ℕ) : Type 0 where
+  pub as-long : length after ≡ length before
+  pub inside : (i : ℕ) → i < n → getD after (from + i) 0 ≡ byte i
+  pub outside : (k : ℕ) → (k < from) ⊎ (from + n ≤ k) → getD after k 0 ≡ getD before k 0
+
+-- ERASE is asked for in state 2: eight bytes, the command 4, the block in bytes 2-3 and the count in bytes 4-5; the blocks are some and
+-- lie in the application
+pub record EraseAsked (at : Site) (c : Call) (block count : ℕ) : Type 0 where
+  pub asks : Asks at c Request.Dnload 8
+  pub idle : at .session .phase .state .0 ≡ 2
+  pub command : getD (c .bytes) 0 0 ≡ 4
+  pub block-is : wordAt (c .bytes) 2 ≡ block
+  pub count-is : wordAt (c .bytes) 4 ≡ count
+  pub some : 1 ≤ count
+  pub from : at .session .board .a .0 ≤ block
+  pub to : block + count ≤ at .session .board .b .0
+
+-- it is taken, goes to 3 and then to 2, and the blocks hold 0xFF
+pub record EraseDone (at : Site) (c : Call) (block count : ℕ) : Type 0 where
+  pub answers : Answers at c 0 []
+  pub enters : Enters at c 3 0 2
+  pub no-download : called at c .outcome .session .down ≡ downOf 0 0
+  pub upload-kept : called at c .outcome .session .up ≡ at .session .up
+  pub flash : Rewritten (at .flash) (called at c .flash) (startOf block) (startOf count) (λ i. 0xFF)
+
+abbrev pub EraseWorks : Type 0
+EraseWorks = (at : Site) (c : Call) (block count : ℕ) → EraseAsked at c block count → EraseDone at c block count
+
+-- PROG is asked for in state 2: the command 1, the block in bytes 2-3, the length in bytes 4-7, and behind these eight bytes the first
+-- data, if any; the range is some bytes in the application that are all 0xFF, and the data is not more than the length
+pub record ProgAsked (at : Site) (c : Call) (block len : ℕ) (first : List ℕ) : Type 0 where
+  pub asks : Asks at c Request.Dnload (8 + length first)
+  pub idle : at .session .phase .state .0 ≡ 2
+  pub command : getD (c .bytes) 0 0 ≡ 1
+  pub block-is : wordAt (c .bytes) 2 ≡ block
+  pub len-is : longAt (c .bytes) 4 ≡ len
+  pub first-is : drop 8 (c .bytes) ≡ first
+  pub some : 1 ≤ len
+  pub from : at .session .board .a .0 ≤ block
+  pub to : startOf block + len ≤ startOf (at .session .board .b .0)
+  pub few : length first ≤ len
+  pub erased : (i : ℕ) → i < len → getD (at .flash) (startOf block + i) 0 ≡ 0xFF
+
+-- a piece is brought in state 5: some bytes, not more than remain
+pub record PieceAsked (at : Site) (c : Call) : Type 0 where
+  pub asks : Asks at c Request.Dnload (length (c .bytes))
+  pub loading : at .session .phase .state .0 ≡ 5
+  pub some : 1 ≤ length (c .bytes)
+  pub few : length (c .bytes) ≤ at .session .down .left
+
+-- bytes are taken: they stand from an address on, the session goes to 3 and then to 5, and the next byte's place and the bytes remaining
+-- have moved on
+pub record BytesDone (at : Site) (c : Call) (place len : ℕ) (bytes : List ℕ) : Type 0 where
+  pub answers : Answers at c 0 []
+  pub enters : Enters at c 3 0 5
+  pub download : called at c .outcome .session .down ≡ downOf (place + length bytes) (len - length bytes)
+  pub upload-kept : called at c .outcome .session .up ≡ at .session .up
+  pub flash : Rewritten (at .flash) (called at c .flash) place (length bytes) (λ i. getD bytes i 0)
+
+pub record ProgramWorks : Type 0 where
+  pub starts :
+      (at : Site) (c : Call) (block len : ℕ) (first : List ℕ) → ProgAsked at c block len first
+      → BytesDone at c (startOf block) len first
+  pub goes-on :
+      (at : Site) (c : Call) → PieceAsked at c
+      → BytesDone at c (at .session .down .place .0) (at .session .down .left) (c .bytes)
+
+-- nothing changes but the reply
+pub record Unchanged (at : Site) (c : Call) (number : ℕ) (bytes : List ℕ) : Type 0 where
+  pub answers : Answers at c number bytes
+  pub session : called at c .outcome .session ≡ at .session
+  pub flash : called at c .flash ≡ at .flash
+
+-- the session goes to a state with a status: a running download is dropped, an upload will start at its first byte, and choice, range
+-- and prefix flag, the sums and the flash stay
+pub record Moves (at : Site) (c : Call) (number : ℕ) (bytes : List ℕ) (n status : ℕ) : Type 0 where
+  pub answers : Answers at c number bytes
+  pub enters : Enters at c n status 2
+  pub no-download : called at c .outcome .session .down ≡ downOf 0 0
+  pub upload :
+      called at c .outcome .session .up
+      ≡ upOf (at .session .up .choice) (at .session .up .«prefix») (at .session .up .first .0) (at .session .up .len) 0
+  pub sums : called at c .outcome .session .sums ≡ at .session .sums
+  pub flash : called at c .flash ≡ at .flash
+
+-- GETSTATUS answers status, three zero bytes, the state it now enters, and zero
+pub record Reports (at : Site) (c : Call) (entered : ℕ) : Type 0 where
+  pub answers : Answers at c 0 (at .session .phase .status .0 ∷ 0 ∷ 0 ∷ 0 ∷ entered ∷ 0 ∷ [])
+  pub enters : Enters at c entered (at .session .phase .status .0) 2
+  pub download : called at c .outcome .session .down ≡ at .session .down
+  pub upload : called at c .outcome .session .up ≡ at .session .up
+  pub sums : called at c .outcome .session .sums ≡ at .session .sums
+  pub flash : called at c .flash ≡ at .flash
+
+-- where an upload's next answer starts: begun in state 2 at the stream's first byte, in state 9 at its place
+abbrev pub StartsAt : Site → ℕ → Type 0
+StartsAt at place =
+    ((at .session .phase .state .0 ≡ 2) × (place ≡ 0))
+    ⊎ ((at .session .phase .state .0 ≡ 9) × (place ≡ at .session .up .place))
+
+-- the next n bytes of the chosen stream, or all that are left of it
+abbrev pub nextBytes : Site → ℕ → ℕ → List ℕ
+nextBytes at place n = take n (drop place (streamOf (at .session .board) (at .session .up) (at .flash)))
+
+-- an upload stays in state 9, behind what was answered
+pub record Uploads (at : Site) (c : Call) (place n : ℕ) : Type 0 where
+  pub answers : Answers at c 0 (nextBytes at place n)
+  pub enters : Enters at c 9 0 2
+  pub no-download : called at c .outcome .session .down ≡ downOf 0 0
+  pub upload :
+      called at c .outcome .session .up
+      ≡ upOf (at .session .up .choice) (at .session .up .«prefix») (at .session .up .first .0) (at .session .up .len)
+      (place + min n (streamLength (at .session .up) - place))
+  pub sums : called at c .outcome .session .sums ≡ at .session .sums
+  pub flash : called at c .flash ≡ at .flash
+
+-- the requests row by row, DNLOAD with data apart
+pub record Rows : Type 0 where
+  -- DNLOAD of no bytes in state 5: with none remaining to 6, else 0x09
+  pub close : (at : Site) (c : Call) → Asks at c Request.Dnload 0 → at .session .phase .state .0 ≡ 5 → at .session .down .left ≡ 0 → Moves at c 0 [] 6 0
+  pub close-missing : (at : Site) (c : Call) → Asks at c Request.Dnload 0 → at .session .phase .state .0 ≡ 5 → 0 < at .session .down .left → Moves at c 3 [] 10 0x09
+  -- UPLOAD: the next bytes, as many as the smaller of wLength and those left; fewer than 1,024 asked for end it
+  pub upload-count : (at : Site) (c : Call) (n place : ℕ) → Asks at c Request.Upload n → StartsAt at place → length (nextBytes at place n) ≡ min n (streamLength (at .session .up) - place)
+  pub upload-ends : (at : Site) (c : Call) (n place : ℕ) → Asks at c Request.Upload n → StartsAt at place → n < 1024 → Moves at c 0 (nextBytes at place n) 2 0
+  pub upload-goes-on : (at : Site) (c : Call) (n place : ℕ) → Asks at c Request.Upload n → StartsAt at place → 1024 ≤ n → Uploads at c place n
+  -- GETSTATUS: from 3 it enters the state after sync, from 6 it enters 2, else it stays
+  pub getstatus-sync : (at : Site) (c : Call) → Asks at c Request.GetStatus 6 → at .session .phase .state .0 ≡ 3 → Reports at c (at .session .phase .after .0)
+  pub getstatus-manifest : (at : Site) (c : Call) → Asks at c Request.GetStatus 6 → at .session .phase .state .0 ≡ 6 → Reports at c 2
+  pub getstatus-else : (at : Site) (c : Call) → Asks at c Request.GetStatus 6 → (at .session .phase .state .0 ≡ 3 → ⊥) → (at .session .phase .state .0 ≡ 6 → ⊥) → Reports at c (at .session .phase .state .0)
+  -- CLRSTATUS clears status and goes to 2
+  pub clrstatus : (at : Site) (c : Call) → Asks at c Request.ClrStatus 0 → at .session .phase .state .0 ≡ 10 → Moves at c 0 [] 2 0
+  -- GETSTATE answers the present state
+  pub getstate : (at : Site) (c : Call) → Asks at c Request.GetState 1 → Unchanged at c 0 (at .session .phase .state .0 ∷ [])
+  -- ABORT goes to 2
+  pub abort : (at : Site) (c : Call) → Asks at c Request.Abort 0 → (at .session .phase .state .0 ≡ 10 → ⊥) → Moves at c 0 [] 2 0
+  -- the query answers four bytes and changes nothing
+  pub query : (at : Site) (c : Call) → Asks at c Request.Query 4 → Unchanged at c 0 (0x4D ∷ 0x4C ∷ 0x01 ∷ 0x20 ∷ [])
+  -- everything else is stalled: to state 10 with status 0x0F; in state 10 nothing changes
+  pub stalled : (at : Site) (c : Call) → Sound at c → Refused at c → (at .session .phase .state .0 ≡ 10 → ⊥) → Moves at c 1 [] 10 0x0F
+  pub stalled-in-error : (at : Site) (c : Call) → Sound at c → Refused at c → at .session .phase .state .0 ≡ 10 → Unchanged at c 1 []
