@@ -1,1 +1,2 @@
 -- What the user is promised: the proofs.
+pub mod ReadBackCalls

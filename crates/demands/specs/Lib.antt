@@ -1,2 +1,3 @@
 -- What the user is promised: the statements.
 pub mod Calls
+pub mod ReadBack
