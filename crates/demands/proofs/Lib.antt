@@ -1,2 +1,4 @@
 -- What the user is promised: the proofs.
 pub mod ReadBackCalls
+pub mod ReadBackSessions
+pub mod ReadBackParts
