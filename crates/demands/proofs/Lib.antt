@@ -2,3 +2,4 @@
 pub mod ReadBackCalls
 pub mod ReadBackSessions
 pub mod ReadBackParts
+pub mod ReadBackUploads

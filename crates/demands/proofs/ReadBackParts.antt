@@ -1,13 +1,13 @@
 -- The parts of reading back, request by request: what each leaves at the sessions of the run. Assumes nothing.
-use Prim.Native.Nat.{ℕ, zero, suc, _+_, _-_, _*_, _≤_, _<_}
+use Prim.Native.Nat.{ℕ, zero, suc, _+_, _-_, _*_, _≤_, _<_, min}
 use mathlib.Core.Bool.{Bool, true, false, cond, _&&_}
 use mathlib.Core.List.{List, [], _∷_, _++_, append-assoc, append-nil}
 use mathlib.Core.Path.{_≡_, refl, sym, ap, ap₂, _∙_, subst}
 use native.Mathlib.Omega.{arith}
-use borrow.Author.Tests.{eq-eqb, ne-eqb, le-leb, ltb-true, ltb-false, eqb-true, eqb-false}
+use borrow.Author.Tests.{eq-eqb, ne-eqb, le-leb, lt-ltb}
 use lib.Dec.{eqb, leb, ltb}
 use lib.ListN.{length, getD, take, drop, length-append, length-take, length-drop, take-append-drop}
-use lib.Seq.{take-append-seam}
+use lib.Seq.{take-append-seam, take-all, drop-drop}
 use Rattle.flash.specs.Flash.{startOf, nextStart, range, spliced, erased}
 use Rattle.sums.specs.declared.Sums.{Sums}
 use Rattle.sums.specs.Sum.{refreshed}
@@ -31,7 +31,7 @@ use Rattle.loader.specs.Reply.{answered, entered, polled, getstatusOf}
 use Rattle.loader.specs.Upload.{placeOf, answerOf, uploadEnds, uploadingAt, uploadedOf, uploadOf}
 use Rattle.loader.specs.Step.{withReply, withFlash}
 use Rattle.demands.specs.Calls.{Call, Site, called}
-use Rattle.demands.specs.ReadBack.{Host, ends, asks, Ran, run, dnload, upload, poll, abort, readCommand, eraseCommand}
+use Rattle.demands.specs.ReadBack.{Host, ends, asks, Ran, run, dnload, upload, poll, abort, readCommand, eraseCommand, keep, gathers}
 use Rattle.demands.proofs.ReadBackCalls.{siteOf, on-taken, is-yes, is-no, dnload-called, upload-called, poll-called, abort-called}
 use Rattle.demands.proofs.ReadBackSessions.{inState, image, image-streamed, atIdle, atCommand, atUpload, atPiece, atDownload}
 use Rattle.demands.proofs.ReadBackSessions.{idle-fit, command-fit, upload-fit, piece-fit, download-fit}
@@ -77,3 +77,32 @@ read-called s f lent block len r room in-idle prefixed legal =
     ∙ ap₂ (λ (b n : ℕ). leaves (readOf s b n) f lent) the-block the-length
     ∙ ap (λ o. leaves o f lent) (is-yes _ _ _ legal)
     ∙ ap (λ (x : ℕ). leaves (takenOf (toSync (withUp s (upOf flashStream x block len 0)) idle noDownload)) f lent) prefixed
+
+-- ERASE
+module _ (board : Board) (block len : ℕ) (sums : Sums) (f lent : List ℕ) (split : splitRule board ≡ true) (legal : inApplication board block len ≡ true) (sized : length f ≡ startOf (board .b .0)) (room : 1024 ≤ length lent) where
+  abbrev pub wiped-sums : Sums
+  wiped-sums = refreshed sums (erased f block (nextStart len)) (board .a .0) (appEnd board) block (block + nextStart len)
+
+  -- the blocks that the range touches lie in the application too
+  pub blocks-legal : inApplication board block (startOf (nextStart len)) ≡ true
+  blocks-legal =
+      let inside = inside-facts board block len legal in
+      rw (
+        lt-ltb 0 (startOf (nextStart len)) (omega arith),
+        le-leb _ _ (inside .from),
+        le-leb (startOf block + startOf (nextStart len)) (startOf (appEnd board)) (omega arith),
+      )
+
+  pub erase-called :
+      called (siteOf (inState board block len atIdle noDownload 0 sums) f) (dnload lent (eraseCommand block (nextStart len)))
+      ≡ leaves (takenOf (inState board block len atCommand noDownload 0 wiped-sums)) (erased f block (nextStart len)) lent
+  unfolding eraseCommand wellFormed carriedOut eraseOf movedTo
+  erase-called =
+      let s = inState board block len atIdle noDownload 0 sums in
+      let small = near board block len split legal in
+      let count = nextStart len in
+      let the-block : wordAt (eraseCommand block count) 2 ≡ block = omega arith in
+      let the-count : wordAt (eraseCommand block count) 4 ≡ count = omega arith in
+      command-called s f lent (record { fit = idle-fit board block len split legal sums; sized = sized }) room (eraseCommand block count) refl refl (omega arith)
+      ∙ ap₂ (λ (b n : ℕ). withReply (eraseOf s f b n) lent) the-block the-count
+      ∙ ap (λ (x : Done). withReply x lent) (is-yes _ _ _ blocks-legal)
