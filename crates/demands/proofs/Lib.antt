@@ -3,3 +3,4 @@ pub mod ReadBackCalls
 pub mod ReadBackSessions
 pub mod ReadBackParts
 pub mod ReadBackUploads
+pub mod ReadBackDownloads
