@@ -4,6 +4,7 @@ use Prim.Native.Nat.{ℕ, zero, suc, _+_, _-_, _*_, _≤_, _<_}
 use mathlib.Core.Bool.{Bool, true, false, cond, _&&_}
 use mathlib.Core.List.{List, [], _∷_, _++_, append-assoc, append-nil}
 use mathlib.Core.Path.{_≡_, refl, sym, ap, ap₂, _∙_, subst}
+use native.Mathlib.Decide.{ℕ-discrete}
 use native.Mathlib.Nat.{add-zero}
 use native.Mathlib.Omega.{arith}
 use borrow.Author.Tests.{eq-eqb, ne-eqb, le-leb, lt-ltb}
@@ -171,3 +172,33 @@ module _ (board : Board) (block len : ℕ) (lent : List ℕ) (split : splitRule 
         (on-taken waiting (dnload lent (header ++ x)) (λ _. asks (poll lent) (λ _. sends lent ps)) _ _ _ _ (prog-called x few (omega arith))
         ∙ polled-piece (spliced g at x) (at + length x) (len - length x) kept next (sends lent ps)))
         (filled-after _ g at x rest (omega arith) (filled then (spliced g at x) (at + length x) (len - length x) kept next (omega arith)))
+
+    -- the pieces of the header and the range's bytes
+    all-sent-as :
+        {ps : List (List ℕ)} {xs : List ℕ} (bytes : List ℕ) → Pieces ps xs → xs ≡ header ++ bytes → length bytes ≡ len
+        → Filled (run waiting (sends lent ps)) g (startOf block) bytes
+    unfolding headerOf
+    all-sent-as bytes none e l = absurd (omega (arith, ap length e))
+    all-sent-as bytes (more {p} {rest} {ps} some few full then) e l =
+        let small = near board block len split legal in
+        let sum : length p + length rest ≡ 8 + len = omega (arith, length-append p rest, ap length e) in
+        let long : 8 ≤ length p =
+            elim (ℕ-discrete (length rest) 0) [ yes z ↦ omega arith | no n ↦ (let whole = full (omega arith) in omega arith) ]
+        in
+        let x = drop 8 p in
+        let x-length = length-drop 8 p in
+        let first : p ≡ header ++ x =
+            sym (take-append-drop 8 p)
+            ∙ ap (λ (h : List ℕ). h ++ x) (sym (take-append-le 8 p rest long) ∙ ap (take 8) e)
+        in
+        let data-is : x ++ rest ≡ bytes = sym (drop-append-le 8 p rest long) ∙ ap (drop 8) e in
+        subst (λ (d : List ℕ). Filled (run waiting (sends lent (d ∷ ps))) g (startOf block) bytes) (sym first)
+        (subst (λ (d : List ℕ). Filled (run waiting (sends lent ((header ++ x) ∷ ps))) g (startOf block) d) data-is
+        (first-sent x then (omega arith) (omega arith)))
+
+  pub all-sent :
+      (g : List ℕ) (sums : Sums) → length g ≡ startOf (board .b .0) → range g (startOf block) len ≡ blank len
+      → {ps : List (List ℕ)} (bytes : List ℕ) → Pieces ps (headerOf (upOf flashStream 1 block len 0) ++ bytes) → length bytes ≡ len
+      → Filled (run (siteOf (inState board block len atIdle noDownload 0 sums) g) (sends lent ps)) g (startOf block) bytes
+  unfolding waiting
+  all-sent g sums sized all-blank bytes parts l = all-sent-as g sums sized all-blank bytes parts refl l
