@@ -4,3 +4,4 @@ pub mod ReadBackSessions
 pub mod ReadBackParts
 pub mod ReadBackUploads
 pub mod ReadBackDownloads
+pub mod ReadBack

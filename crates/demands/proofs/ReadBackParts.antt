@@ -78,24 +78,27 @@ read-called s f lent block len r room in-idle prefixed legal =
     ∙ ap (λ o. leaves o f lent) (is-yes _ _ _ legal)
     ∙ ap (λ (x : ℕ). leaves (takenOf (toSync (withUp s (upOf flashStream x block len 0)) idle noDownload)) f lent) prefixed
 
+-- the blocks that the range touches lie in the application too
+pub blocks-legal :
+    (board : Board) (block len : ℕ) → inApplication board block len ≡ true
+    → inApplication board block (startOf (nextStart len)) ≡ true
+blocks-legal board block len legal =
+    let inside = inside-facts board block len legal in
+    rw (
+      lt-ltb 0 (startOf (nextStart len)) (omega arith),
+      le-leb _ _ (inside .from),
+      le-leb (startOf block + startOf (nextStart len)) (startOf (appEnd board)) (omega arith),
+    )
+
 -- ERASE
-module _ (board : Board) (block len : ℕ) (sums : Sums) (f lent : List ℕ) (split : splitRule board ≡ true) (legal : inApplication board block len ≡ true) (sized : length f ≡ startOf (board .b .0)) (room : 1024 ≤ length lent) where
+module _ (board : Board) (block len : ℕ) (sums : Sums) (f : List ℕ) where
   abbrev pub wiped-sums : Sums
   wiped-sums = refreshed sums (erased f block (nextStart len)) (board .a .0) (appEnd board) block (block + nextStart len)
 
-  -- the blocks that the range touches lie in the application too
-  pub blocks-legal : inApplication board block (startOf (nextStart len)) ≡ true
-  blocks-legal =
-      let inside = inside-facts board block len legal in
-      rw (
-        lt-ltb 0 (startOf (nextStart len)) (omega arith),
-        le-leb _ _ (inside .from),
-        le-leb (startOf block + startOf (nextStart len)) (startOf (appEnd board)) (omega arith),
-      )
-
+module _ (board : Board) (block len : ℕ) (sums : Sums) (f lent : List ℕ) (split : splitRule board ≡ true) (legal : inApplication board block len ≡ true) (sized : length f ≡ startOf (board .b .0)) (room : 1024 ≤ length lent) where
   pub erase-called :
       called (siteOf (inState board block len atIdle noDownload 0 sums) f) (dnload lent (eraseCommand block (nextStart len)))
-      ≡ leaves (takenOf (inState board block len atCommand noDownload 0 wiped-sums)) (erased f block (nextStart len)) lent
+      ≡ leaves (takenOf (inState board block len atCommand noDownload 0 (wiped-sums board block len sums f))) (erased f block (nextStart len)) lent
   unfolding eraseCommand wellFormed carriedOut eraseOf movedTo
   erase-called =
       let s = inState board block len atIdle noDownload 0 sums in
@@ -105,4 +108,4 @@ module _ (board : Board) (block len : ℕ) (sums : Sums) (f lent : List ℕ) (sp
       let the-count : wordAt (eraseCommand block count) 4 ≡ count = omega arith in
       command-called s f lent (record { fit = idle-fit board block len split legal sums; sized = sized }) room (eraseCommand block count) refl refl (omega arith)
       ∙ ap₂ (λ (b n : ℕ). withReply (eraseOf s f b n) lent) the-block the-count
-      ∙ ap (λ (x : Done). withReply x lent) (is-yes _ _ _ blocks-legal)
+      ∙ ap (λ (x : Done). withReply x lent) (is-yes _ _ _ (blocks-legal board block len legal))

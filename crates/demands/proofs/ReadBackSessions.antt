@@ -3,11 +3,13 @@
 use Prim.Native.Nat.{ℕ, _+_, _≤_}
 use mathlib.Core.Bool.{true, _&&_, _||_}
 use mathlib.Core.List.{List, _++_}
-use mathlib.Core.Path.{_≡_, refl}
+use mathlib.Core.Path.{_≡_, refl, ap₂, _∙_}
 use native.Mathlib.Omega.{arith}
 use borrow.Author.Tests.{le-leb}
 use lib.Dec.{eqb, leb}
+use lib.ListN.{length, length-append}
 use Rattle.flash.specs.Flash.{startOf, range}
+use Rattle.flash.proofs.Laws.{length-range}
 use Rattle.sums.specs.declared.Sums.{Sums}
 use Rattle.session.specs.Codes.{idle, downloadSync, downloadIdle, uploadIdle, ok}
 use Rattle.session.specs.Session.{phaseOf, downOf, noDownload, upOf, appEnd, flashStream, streamLength}
@@ -18,6 +20,7 @@ use Rattle.session.specs.declared.Download.{Download}
 use Rattle.session.specs.declared.Session.{Session}
 use Rattle.session.proofs.Laws.{kept-fit}
 use Rattle.stream.specs.Stream.{headerOf, prefixOf, streamOf}
+use Rattle.stream.proofs.Laws.{header-length}
 
 module _ (board : Board) (block len : ℕ) where
   abbrev pub inState : Phase → Download → ℕ → Sums → Session
@@ -31,6 +34,12 @@ module _ (board : Board) (block len : ℕ) where
   pub image-streamed : (f : List ℕ) (place : ℕ) → streamOf board (upOf flashStream 1 block len place) f ≡ image f
   unfolding streamOf prefixOf headerOf
   image-streamed f place = refl
+
+  pub image-length : (f : List ℕ) → startOf block + len ≤ length f → length (image f) ≡ 8 + len
+  image-length f h =
+      let up = upOf flashStream 1 block len 0 in
+      length-append (headerOf up) (range f (startOf block) len)
+      ∙ ap₂ _+_ (header-length up) (length-range f (startOf block) len h)
 
 -- the states of the run
 abbrev pub atIdle : Phase
