@@ -15,3 +15,9 @@ pub mod TwoRows
 pub mod TiedDesk
 pub mod TiedOne
 pub mod TiedImpostors
+pub mod ReadBackCalls
+pub mod ReadBackSessions
+pub mod ReadBackParts
+pub mod ReadBackUploads
+pub mod ReadBackDownloads
+pub mod ReadBack

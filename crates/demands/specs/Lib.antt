@@ -4,3 +4,4 @@ pub mod One
 pub mod Three
 pub mod Two
 pub mod Tied
+pub mod ReadBack

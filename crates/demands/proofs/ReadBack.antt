@@ -1,0 +1,154 @@
+-- Reading back holds: READ chooses the range's stream, the uploads bring it in pieces, the erase blanks the range, and the pieces sent
+-- back put its bytes where they were. Assumes nothing.
+use Prim.Native.Nat.{ℕ, _+_, _-_, _≤_}
+use mathlib.Core.Bool.{true}
+use mathlib.Core.List.{List, [], _++_}
+use mathlib.Core.Path.{_≡_, refl, sym, ap, ap₂, _∙_, subst}
+use native.Mathlib.Omega.{arith}
+use lib.ListN.{length, take, drop, replicate, replicate-append-replicate, length-replicate}
+use lib.Seq.{take-take, take-at}
+use Rattle.flash.specs.Flash.{startOf, nextStart, range, spliced, blank, erased}
+use Rattle.flash.proofs.Laws.{length-blank, length-range, spliced-length, spliced-range, erased-blank}
+use Rattle.sums.specs.Sum.{freshSums}
+use Rattle.sums.specs.declared.Sums.{Sums}
+use Rattle.session.specs.Session.{downOf, noDownload, appEnd, boardOf, freshOf, wholeUpload}
+use Rattle.session.specs.Rules.{splitRule, inApplication}
+use Rattle.session.specs.declared.Board.{Board}
+use Rattle.session.proofs.Laws.{fit-kept, end-in-flash, inside-facts, fresh-fit}
+use Rattle.request.specs.Request.{allowedOf}
+use Rattle.moves.specs.Moves.{movedTo}
+use Rattle.loader.specs.Reply.{entered, polled}
+use Rattle.loader.specs.Step.{freshStart}
+use Rattle.demands.specs.Calls.{Site}
+use Rattle.demands.specs.ReadBack.{Host, ends, asks, Ran, run, dnload, poll, abort, readCommand, eraseCommand}
+use Rattle.demands.specs.ReadBack.{gathers, answersOf, reads, clears, sends, hasRead, hasCleared, hasSent, MayReadBack, ReadsBack, ReadBack}
+use Rattle.demands.proofs.ReadBackCalls.{siteOf, on-taken, abort-called}
+use Rattle.demands.proofs.ReadBackSessions.{inState, image, image-length, atIdle, atCommand, atUpload, command-fit, upload-fit}
+use Rattle.demands.proofs.ReadBackParts.{polled-on, read-called, blocks-legal, wiped-sums, erase-called}
+use Rattle.demands.proofs.ReadBackUploads.{Pieces, Gathered, all-read}
+use Rattle.demands.proofs.ReadBackDownloads.{Filled, all-sent}
+
+-- the first bytes of blank ones are blank
+take-blank : (n m : ℕ) → n ≤ m → take n (blank m) ≡ blank n
+unfolding blank
+take-blank n m h =
+    let e : n + (m - n) ≡ m = omega arith in
+    ap (λ (k : ℕ). take n (replicate k 255)) (sym e)
+    ∙ ap (take n) (sym (replicate-append-replicate n (m - n) 255))
+    ∙ take-at (replicate n 255) (replicate (m - n) 255) n (length-replicate n 255)
+
+-- a range of an erased flash that lies in the erased blocks
+blank-range :
+    (f : List ℕ) (first count n : ℕ) → startOf first + startOf count ≤ length f → n ≤ startOf count
+    → range (erased f first count) (startOf first) n ≡ blank n
+unfolding range
+blank-range f first count n h le =
+    sym (take-take n (startOf count) (drop (startOf first) (erased f first count)) le)
+    ∙ ap (take n) (erased-blank f first count h)
+    ∙ take-blank n (startOf count) le
+
+erased-length :
+    (f : List ℕ) (first count : ℕ) → startOf first + startOf count ≤ length f → length (erased f first count) ≡ length f
+unfolding erased
+erased-length f first count h = spliced-length f (startOf first) (blank (startOf count)) (omega (arith, length-blank (startOf count)))
+
+module _ (at : Site) (lent : List ℕ) (block len : ℕ) (m : MayReadBack at lent block len) where
+  abbrev board : Board
+  board = at .session .board
+
+  abbrev sums : Sums
+  sums = at .session .sums
+
+  split : splitRule board ≡ true
+  split = fit-kept (at .session) (m .fit) .split
+
+  -- the first part
+  reads-on : hasRead at lent block len ≡ run (siteOf (inState board block len atIdle noDownload 0 sums) (at .flash)) (gathers lent (answersOf (8 + len)) [])
+  unfolding hasRead reads polled entered
+  reads-on =
+      let gather = gathers lent (answersOf (8 + len)) [] in
+      on-taken at (dnload lent (readCommand block len)) (λ _. asks (poll lent) (λ _. gather)) _ _ _ _
+      (read-called (at .session) (at .flash) lent block len (record { fit = m .fit; sized = m .sized }) (m .roomy) (m .in-idle) (m .prefixed) (m .legal))
+      ∙ polled-on (inState board block len atCommand noDownload 0 sums) (at .flash) lent
+      (record { fit = command-fit board block len split (m .legal) sums; sized = m .sized }) (m .roomy) gather
+
+  in-flash : startOf block + len ≤ length (at .flash)
+  in-flash = let inside = inside-facts board block len (m .legal) in omega (arith, m .sized, end-in-flash board)
+
+  read-all : Gathered board block len sums (at .flash) lent (hasRead at lent block len) [] (image board block len (at .flash))
+  read-all =
+      let whole = image-length board block len (at .flash) in-flash in
+      subst (λ (r : Ran (List (List ℕ))). Gathered board block len sums (at .flash) lent r [] (image board block len (at .flash)))
+      (sym reads-on) (all-read board block len sums (at .flash) lent (m .roomy) split (m .legal) (m .sized) whole)
+
+  -- the second part
+  blocks-in-flash : startOf block + startOf (nextStart len) ≤ length (at .flash)
+  blocks-in-flash =
+      let inside = inside-facts board block (startOf (nextStart len)) (blocks-legal board block len (m .legal)) in
+      omega (arith, m .sized, end-in-flash board)
+
+  cleared-flash : List ℕ
+  cleared-flash = erased (at .flash) block (nextStart len)
+
+  cleared-sized : length cleared-flash ≡ startOf (board .b .0)
+  unfolding cleared-flash
+  cleared-sized = erased-length (at .flash) block (nextStart len) blocks-in-flash ∙ m .sized
+
+  cleared-blank : range cleared-flash (startOf block) len ≡ blank len
+  unfolding cleared-flash
+  cleared-blank = blank-range (at .flash) block (nextStart len) len blocks-in-flash (omega arith)
+
+  cleared-sums : Sums
+  cleared-sums = wiped-sums board block len sums (at .flash)
+
+  cleared-ran : Ran Unit
+  cleared-ran =
+      record { site = siteOf (inState board block len atIdle noDownload 0 cleared-sums) cleared-flash; got = tt; taken = true }
+
+  clears-on : hasCleared at lent block len ≡ cleared-ran
+  unfolding hasCleared clears run movedTo polled entered cleared-ran cleared-flash cleared-sums allowedOf
+  clears-on =
+      let f = at .flash in
+      let polls = asks (poll lent) (λ _. ends tt) in
+      let erases = asks (dnload lent (eraseCommand block (nextStart len))) (λ _. polls) in
+      let uploaded = inState board block len atUpload noDownload (8 + len) sums in
+      ap (λ (x : Site). run x (clears lent block len)) (read-all .stops)
+      ∙ on-taken (siteOf uploaded f) (abort lent) (λ _. erases) _ _ _ _
+      (abort-called uploaded f lent (record { fit = upload-fit board block len split (m .legal) sums (8 + len) (omega arith); sized = m .sized }) (m .roomy) refl)
+      ∙ on-taken (siteOf (inState board block len atIdle noDownload 0 sums) f) (dnload lent (eraseCommand block (nextStart len))) (λ _. polls) _ _ _ _
+      (erase-called board block len sums f lent split (m .legal) (m .sized) (m .roomy))
+      ∙ polled-on (inState board block len atCommand noDownload 0 cleared-sums) cleared-flash lent
+      (record { fit = command-fit board block len split (m .legal) cleared-sums; sized = cleared-sized }) (m .roomy) (ends tt)
+
+  -- the third part
+  sent-all : Filled (hasSent at lent block len) cleared-flash (startOf block) (range (at .flash) (startOf block) len)
+  unfolding hasSent cleared-ran
+  sent-all =
+      let bytes = range (at .flash) (startOf block) len in
+      subst (λ (r : Ran Unit). Filled r cleared-flash (startOf block) bytes)
+      (sym (ap₂ (λ (x : Ran Unit) (ps : List (List ℕ)). run (x .site) (sends lent ps)) clears-on (read-all .joins)))
+      (all-sent board block len lent split (m .legal) (m .roomy) cleared-flash cleared-sums cleared-sized cleared-blank bytes (read-all .pieces)
+      (length-range (at .flash) (startOf block) len in-flash))
+
+  reads-back : ReadsBack at lent block len
+  unfolding cleared-flash cleared-ran
+  reads-back =
+      let bytes = range (at .flash) (startOf block) len in
+      let long = length-range (at .flash) (startOf block) len in-flash in
+      record {
+        read-taken = read-all .taken;
+        clear-taken = ap (λ (r : Ran Unit). r .taken) clears-on;
+        send-taken = sent-all .taken;
+        untouched = ap (λ (x : Site). x .flash) (read-all .stops);
+        cleared = ap (λ (r : Ran Unit). r .site .flash) clears-on;
+        filled = sent-all .flash;
+        restored =
+            ap (λ (x : List ℕ). range x (startOf block) len) (sent-all .flash)
+            ∙ ap (range (spliced cleared-flash (startOf block) bytes) (startOf block)) (sym long)
+            ∙ spliced-range cleared-flash (startOf block) bytes (omega (arith, cleared-sized, m .sized, in-flash));
+        in-download-idle = sent-all .state;
+        none-left = sent-all .down ∙ ap (λ (n : ℕ). downOf (startOf block + n) 0) long;
+      }
+
+pub ReadBack-holds : ReadBack
+ReadBack-holds = reads-back

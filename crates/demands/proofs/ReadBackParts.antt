@@ -1,0 +1,111 @@
+-- The parts of reading back, request by request: what each leaves at the sessions of the run. Assumes nothing.
+use Prim.Native.Nat.{ℕ, zero, suc, _+_, _-_, _*_, _≤_, _<_, min}
+use mathlib.Core.Bool.{Bool, true, false, cond, _&&_}
+use mathlib.Core.List.{List, [], _∷_, _++_, append-assoc, append-nil}
+use mathlib.Core.Path.{_≡_, refl, sym, ap, ap₂, _∙_, subst}
+use native.Mathlib.Omega.{arith}
+use borrow.Author.Tests.{eq-eqb, ne-eqb, le-leb, lt-ltb}
+use lib.Dec.{eqb, leb, ltb}
+use lib.ListN.{length, getD, take, drop, length-append, length-take, length-drop, take-append-drop}
+use lib.Seq.{take-append-seam, take-all, drop-drop}
+use Rattle.flash.specs.Flash.{startOf, nextStart, range, spliced, erased}
+use Rattle.sums.specs.declared.Sums.{Sums}
+use Rattle.sums.specs.Sum.{refreshed}
+use Rattle.session.specs.Codes.{idle}
+use Rattle.session.specs.Session.{phaseOf, downOf, noDownload, upOf, withUp, appEnd, flashStream}
+use Rattle.session.specs.Rules.{fitOf, splitRule, inApplication}
+use Rattle.session.specs.declared.Board.{Board}
+use Rattle.session.specs.declared.Session.{Session}
+use Rattle.session.proofs.Laws.{fit-kept, split-facts, end-in-flash, inside-facts}
+use Rattle.request.specs.declared.Request.{Request}
+use Rattle.request.specs.Request.{allowedOf, wordAt}
+use Rattle.stream.specs.Stream.{nextOf, streamOf}
+use Rattle.stream.proofs.Laws.{four-bytes}
+use Rattle.moves.specs.declared.Answer.{Answer}
+use Rattle.moves.specs.Answers.{Done, Replied, done, leaves}
+use Rattle.moves.specs.Moves.{movedTo, toSync, takenOf}
+use Rattle.command.specs.Ready.{Ready}
+use Rattle.command.specs.Download.{longAt, dnloadOf, commandOf, carriedOut, wellFormed, readOf, eraseOf}
+use Rattle.command.proofs.Laws.{long-enough}
+use Rattle.loader.specs.Reply.{answered, entered, polled, getstatusOf}
+use Rattle.loader.specs.Upload.{placeOf, answerOf, uploadEnds, uploadingAt, uploadedOf, uploadOf}
+use Rattle.loader.specs.Step.{withReply, withFlash}
+use Rattle.demands.specs.Calls.{Call, Site, called}
+use Rattle.demands.specs.ReadBack.{Host, ends, asks, Ran, run, dnload, upload, poll, abort, readCommand, eraseCommand, keep, gathers}
+use Rattle.demands.proofs.ReadBackCalls.{siteOf, on-taken, is-yes, is-no, dnload-called, upload-called, poll-called, abort-called}
+use Rattle.demands.proofs.ReadBackSessions.{inState, image, image-streamed, atIdle, atCommand, atUpload, atPiece, atDownload}
+use Rattle.demands.proofs.ReadBackSessions.{idle-fit, command-fit, upload-fit, piece-fit, download-fit}
+
+module _ (s : Session) (f lent : List ℕ) (r : Ready s f) (room : 1024 ≤ length lent) where
+  -- a poll
+  pub polled-on : {A : Type 0} (h : Host A) → run (siteOf s f) (asks (poll lent) (λ _. h)) ≡ run (siteOf (polled s) f) h
+  unfolding getstatusOf answered allowedOf
+  polled-on h = on-taken (siteOf s f) (poll lent) (λ _. h) _ (polled s) f _ (poll-called s f lent r room (fit-kept s (r .fit) .state))
+
+  -- a well-formed command in state idle is carried out
+  pub command-called :
+      (d : List ℕ) → s .phase .state .0 ≡ idle → wellFormed d ≡ true → length d ≤ 1024
+      → called (siteOf s f) (dnload lent d) ≡ withReply (carriedOut (getD d 0 0) s f d) lent
+  unfolding dnloadOf commandOf allowedOf
+  command-called d in-idle w few =
+      let long = long-enough d w in
+      dnload-called s f lent r room d few (rw (in-idle, ne-eqb (length d) 0 (omega arith)))
+      ∙ ap (λ (x : Done). withReply x lent) (is-yes _ _ _ (eq-eqb _ _ in-idle) ∙ is-yes _ _ _ w)
+
+-- a range of the application has a 16-bit block number and a 32-bit length
+module _ (board : Board) (block len : ℕ) (split : splitRule board ≡ true) (legal : inApplication board block len ≡ true) where
+  pub near : (block < 65) × (len ≤ 65536) × (0 < len)
+  near =
+      let facts = split-facts board split in
+      let ends = end-in-flash board in
+      let inside = inside-facts board block len legal in
+      omega arith
+
+-- READ
+pub read-called :
+    (s : Session) (f lent : List ℕ) (block len : ℕ) → Ready s f → 1024 ≤ length lent → s .phase .state .0 ≡ idle
+    → s .up .«prefix» ≡ 1
+    → inApplication (s .board) block len ≡ true
+    → called (siteOf s f) (dnload lent (readCommand block len))
+    ≡ leaves (takenOf (inState (s .board) block len atCommand noDownload 0 (s .sums))) f lent
+unfolding readCommand wellFormed carriedOut readOf movedTo
+read-called s f lent block len r room in-idle prefixed legal =
+    let small = near (s .board) block len (fit-kept s (r .fit) .split) legal in
+    let the-block : wordAt (readCommand block len) 2 ≡ block = omega arith in
+    let the-length : longAt (readCommand block len) 4 ≡ len = four-bytes len (omega arith) in
+    command-called s f lent r room (readCommand block len) in-idle refl (omega arith)
+    ∙ ap₂ (λ (b n : ℕ). leaves (readOf s b n) f lent) the-block the-length
+    ∙ ap (λ o. leaves o f lent) (is-yes _ _ _ legal)
+    ∙ ap (λ (x : ℕ). leaves (takenOf (toSync (withUp s (upOf flashStream x block len 0)) idle noDownload)) f lent) prefixed
+
+-- the blocks that the range touches lie in the application too
+pub blocks-legal :
+    (board : Board) (block len : ℕ) → inApplication board block len ≡ true
+    → inApplication board block (startOf (nextStart len)) ≡ true
+blocks-legal board block len legal =
+    let inside = inside-facts board block len legal in
+    rw (
+      lt-ltb 0 (startOf (nextStart len)) (omega arith),
+      le-leb _ _ (inside .from),
+      le-leb (startOf block + startOf (nextStart len)) (startOf (appEnd board)) (omega arith),
+    )
+
+-- ERASE
+module _ (board : Board) (block len : ℕ) (sums : Sums) (f : List ℕ) where
+  abbrev pub wiped-sums : Sums
+  wiped-sums = refreshed sums (erased f block (nextStart len)) (board .a .0) (appEnd board) block (block + nextStart len)
+
+module _ (board : Board) (block len : ℕ) (sums : Sums) (f lent : List ℕ) (split : splitRule board ≡ true) (legal : inApplication board block len ≡ true) (sized : length f ≡ startOf (board .b .0)) (room : 1024 ≤ length lent) where
+  pub erase-called :
+      called (siteOf (inState board block len atIdle noDownload 0 sums) f) (dnload lent (eraseCommand block (nextStart len)))
+      ≡ leaves (takenOf (inState board block len atCommand noDownload 0 (wiped-sums board block len sums f))) (erased f block (nextStart len)) lent
+  unfolding eraseCommand wellFormed carriedOut eraseOf movedTo
+  erase-called =
+      let s = inState board block len atIdle noDownload 0 sums in
+      let small = near board block len split legal in
+      let count = nextStart len in
+      let the-block : wordAt (eraseCommand block count) 2 ≡ block = omega arith in
+      let the-count : wordAt (eraseCommand block count) 4 ≡ count = omega arith in
+      command-called s f lent (record { fit = idle-fit board block len split legal sums; sized = sized }) room (eraseCommand block count) refl refl (omega arith)
+      ∙ ap₂ (λ (b n : ℕ). withReply (eraseOf s f b n) lent) the-block the-count
+      ∙ ap (λ (x : Done). withReply x lent) (is-yes _ _ _ (blocks-legal board block len legal))

@@ -1,0 +1,103 @@
+-- The sessions that reading back goes through: a board, a range that lies in its application, the prefix on, and each of the run's
+-- states with its download, its upload's place and its sums. Each is fit. Assumes nothing.
+use Prim.Native.Nat.{ℕ, _+_, _≤_}
+use mathlib.Core.Bool.{true, _&&_, _||_}
+use mathlib.Core.List.{List, _++_}
+use mathlib.Core.Path.{_≡_, refl, ap₂, _∙_}
+use native.Mathlib.Omega.{arith}
+use borrow.Author.Tests.{le-leb}
+use lib.Dec.{eqb, leb}
+use lib.ListN.{length, length-append}
+use Rattle.flash.specs.Flash.{startOf, range}
+use Rattle.flash.proofs.Laws.{length-range}
+use Rattle.sums.specs.declared.Sums.{Sums}
+use Rattle.session.specs.Codes.{idle, downloadSync, downloadIdle, uploadIdle, ok}
+use Rattle.session.specs.Session.{phaseOf, downOf, noDownload, upOf, appEnd, flashStream, streamLength}
+use Rattle.session.specs.Rules.{stateRule, statusRule, downloadRule, afterRule, placeRule, splitRule, inApplication, fitOf}
+use Rattle.session.specs.declared.Board.{Board}
+use Rattle.session.specs.declared.Phase.{Phase}
+use Rattle.session.specs.declared.Download.{Download}
+use Rattle.session.specs.declared.Session.{Session}
+use Rattle.session.proofs.Laws.{kept-fit}
+use Rattle.stream.specs.Stream.{headerOf, prefixOf, streamOf}
+use Rattle.stream.proofs.Laws.{header-length}
+
+module _ (board : Board) (block len : ℕ) where
+  abbrev pub inState : Phase → Download → ℕ → Sums → Session
+  inState phase down place sums =
+      record { board = board; phase = phase; down = down; up = upOf flashStream 1 block len place; sums = sums }
+
+  -- the header of the range and the range
+  abbrev pub image : List ℕ → List ℕ
+  image f = headerOf (upOf flashStream 1 block len 0) ++ range f (startOf block) len
+
+  pub image-streamed : (f : List ℕ) (place : ℕ) → streamOf board (upOf flashStream 1 block len place) f ≡ image f
+  unfolding streamOf prefixOf headerOf
+  image-streamed f place = refl
+
+  pub image-length : (f : List ℕ) → startOf block + len ≤ length f → length (image f) ≡ 8 + len
+  image-length f h =
+      let up = upOf flashStream 1 block len 0 in
+      length-append (headerOf up) (range f (startOf block) len)
+      ∙ ap₂ _+_ (header-length up) (length-range f (startOf block) len h)
+
+-- the states of the run
+abbrev pub atIdle : Phase
+atIdle = phaseOf idle ok idle
+
+abbrev pub atCommand : Phase
+atCommand = phaseOf downloadSync ok idle
+
+abbrev pub atUpload : Phase
+atUpload = phaseOf uploadIdle ok idle
+
+abbrev pub atPiece : Phase
+atPiece = phaseOf downloadSync ok downloadIdle
+
+abbrev pub atDownload : Phase
+atDownload = phaseOf downloadIdle ok idle
+
+module _ (board : Board) (block len : ℕ) (split : splitRule board ≡ true) (legal : inApplication board block len ≡ true) (sums : Sums) where
+  -- the rules that the board, the range and the flags don't settle
+  state-fit : (phase : Phase) (down : Download) (place : ℕ)
+      → stateRule phase ≡ true
+      → statusRule phase ≡ true
+      → downloadRule phase down ≡ true
+      → (eqb (phase .state .0) uploadIdle || eqb place 0) ≡ true
+      → place ≤ 8 + len
+      → afterRule phase ≡ true
+      → placeRule board phase down ≡ true
+      → fitOf (inState board block len phase down place sums) ≡ true
+  unfolding streamLength
+  state-fit phase down place state status download where-upload upload after at =
+      kept-fit (inState board block len phase down place sums)
+      (record {
+        split = split;
+        state = state;
+        status = status;
+        download = download;
+        upload = rw (where-upload, le-leb place (8 + len) upload);
+        after = after;
+        range = legal;
+        place = at;
+        flags = refl;
+      })
+
+  pub idle-fit : fitOf (inState board block len atIdle noDownload 0 sums) ≡ true
+  idle-fit = state-fit atIdle noDownload 0 refl refl refl refl (omega arith) refl refl
+
+  pub command-fit : fitOf (inState board block len atCommand noDownload 0 sums) ≡ true
+  command-fit = state-fit atCommand noDownload 0 refl refl refl refl (omega arith) refl refl
+
+  pub upload-fit : (place : ℕ) → place ≤ 8 + len → fitOf (inState board block len atUpload noDownload place sums) ≡ true
+  upload-fit place h = state-fit atUpload noDownload place refl refl refl refl h refl refl
+
+  module _ (at left : ℕ) (from : startOf (board .a .0) ≤ at) (to : at + left ≤ startOf (appEnd board)) where
+    placed : (leb (startOf (board .a .0)) at && leb at (startOf (appEnd board)) && leb (at + left) (startOf (appEnd board))) ≡ true
+    placed = rw (le-leb _ _ from, le-leb at (startOf (appEnd board)) (omega arith), le-leb _ _ to)
+
+    pub piece-fit : fitOf (inState board block len atPiece (downOf at left) 0 sums) ≡ true
+    piece-fit = state-fit atPiece (downOf at left) 0 refl refl refl refl (omega arith) refl placed
+
+    pub download-fit : fitOf (inState board block len atDownload (downOf at left) 0 sums) ≡ true
+    download-fit = state-fit atDownload (downOf at left) 0 refl refl refl refl (omega arith) refl placed
