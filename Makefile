@@ -14,3 +14,13 @@ host:
 # What the programs are held to was computed by the second loader, and still is what it computes.
 expected:
 	$(HOST) vectors | cmp - crates/vectors/stdout
+	$(HOST) script -- session | cmp - crates/play/stdin
+	$(HOST) play < crates/play/stdin | cmp - crates/play/stdout
+	$(HOST) script -- desk | cmp - crates/desk/stdin
+	$(HOST) play < crates/desk/stdin | cmp - crates/desk/stdout
+
+# Proves the loader, plays a session through it and shows what each request was answered.
+demo:
+	rt check play
+	@echo 'answer count state status whole-sum block-sums reply flash'
+	@cat target/log/play.stdout
