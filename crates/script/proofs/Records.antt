@@ -1,13 +1,12 @@
 -- Which record a script goes on with, and that its parts lie in the script. Assumes nothing.
 use Prim.Native.Nat.{ℕ, _+_, _-_, _≤_, _<_}
 use mathlib.Core.List.{List}
-use mathlib.Core.Path.{_≡_, sym}
+use mathlib.Core.Path.{_≡_}
 use native.Mathlib.Decide.{decLt}
 use native.Mathlib.Omega.{arith}
 use borrow.Author.Tests.{lt-ltb, le-ltb}
 use lib.ListN.{length, take, drop, length-take, length-drop}
 use Rattle.script.specs.Tape.{setupEnd, dataEnd, recordOf}
-use Rattle.script.specs.declared.tape.Record.{Record}
 use Rattle.script.specs.declared.tape.Record.the-variants.{Call, End}
 
 module _ (rest : List ℕ) where
