@@ -6,3 +6,4 @@ pub mod OneFit
 pub mod OneMet
 pub mod ThreeHistory
 pub mod ThreeNamed
+pub mod ThreeMet
