@@ -1,6 +1,5 @@
 -- The premises of demand 3 can be met, and what is noted of a PROG is what the next piece may change. Assumes nothing.
-use Prim.Native.Nat.{ℕ}
-use mathlib.Core.List.{List, [], _∷_}
+use mathlib.Core.List.{[], _∷_}
 use mathlib.Core.Path.{_≡_, refl}
 use lib.ListN.{getD}
 use Rattle.flash.specs.Flash.{blank, range, spliced, firstIn, searched}
@@ -28,20 +27,17 @@ piece = callOf (0x21 ∷ 1 ∷ 0 ∷ 0 ∷ 0 ∷ 0 ∷ 1 ∷ 0 ∷ []) (9 ∷ []
 unfoldable pub startSite : Site
 startSite = begun smallFlash 1 2 0 0
 
-pub noted-met : notedAfter none startSite (prog ∷ poll ∷ []) ≡ record { at = 1024; size = 2 }
-unfolding startSite smallFlash begun blank range spliced firstIn searched appEnd streamLength wholeUpload freshOf fitOf formOf setupOf dataAsked allowedOf movedTo allErased sumsAfter wroteOf progOf wellFormed carriedOut commandOf pieceOf dnloadOf answered entered polled pollTime getstatusOf startable freshStart startOutcome ready served stepOf called next after commandNames tookDnload mayChange noteOf notedAfter
-noted-met = refl
-
--- before the piece, and the byte that it changes
+-- before the piece
 unfoldable pub before : Site
 before = after startSite (prog ∷ poll ∷ [])
 
-pub may-change-met :
-    mayChange (notedAfter none startSite (prog ∷ poll ∷ [])) (before .session) piece (called before piece)
-    ≡ record { at = 1024; size = 2 }
-unfolding before startSite smallFlash begun blank range spliced firstIn searched appEnd streamLength wholeUpload freshOf fitOf formOf setupOf dataAsked allowedOf movedTo allErased sumsAfter wroteOf progOf wellFormed carriedOut commandOf pieceOf dnloadOf answered entered polled pollTime getstatusOf startable freshStart startOutcome ready served stepOf called next after commandNames tookDnload mayChange noteOf notedAfter
-may-change-met = refl
+-- what is noted by then, what the piece may change, and a byte that it does change
+pub record Continues : Type 0 where
+  pub noted : notedAfter none startSite (prog ∷ poll ∷ []) ≡ record { at = 1024; size = 2 }
+  pub may : (r : Named) → mayChange r (before .session) piece (called before piece) ≡ r
+  pub erased-yet : getD (before .flash) 1025 0 ≡ 255
+  pub written : getD (next before piece .flash) 1025 0 ≡ 9
 
-pub changed-met : (getD (before .flash) 1025 0 ≡ 255) × (getD (next before piece .flash) 1025 0 ≡ 9)
-unfolding before startSite smallFlash begun blank range spliced firstIn searched appEnd streamLength wholeUpload freshOf fitOf formOf setupOf dataAsked allowedOf movedTo allErased sumsAfter wroteOf progOf wellFormed carriedOut commandOf pieceOf dnloadOf answered entered polled pollTime getstatusOf startable freshStart startOutcome ready served stepOf called next after
-changed-met = (refl, refl)
+pub only-named-met : Continues
+unfolding before startSite smallFlash begun blank range spliced firstIn searched appEnd streamLength wholeUpload freshOf fitOf formOf setupOf dataAsked allowedOf movedTo allErased sumsAfter wroteOf progOf wellFormed carriedOut commandOf pieceOf dnloadOf answered entered polled pollTime getstatusOf startable freshStart startOutcome ready served stepOf called next after commandNames tookDnload mayChange noteOf notedAfter
+only-named-met = record { noted = refl; may = λ r. refl; erased-yet = refl; written = refl }
