@@ -21,3 +21,4 @@ pub mod ReadBackParts
 pub mod ReadBackUploads
 pub mod ReadBackDownloads
 pub mod ReadBack
+pub mod ThreeMet

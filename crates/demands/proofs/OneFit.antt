@@ -1,31 +1,28 @@
 -- Each way through a call keeps the rules: A and B stay, a state is entered with the status and the fields that its rules ask for, and a
 -- range is kept only after it was found to lie in the application. Assumes nothing.
-use Prim.Native.Nat.{ℕ, _+_, _-_, _≤_, _<_, min}
-use mathlib.Core.Bool.{Bool, true, false, cond, _&&_, _||_, false≢true}
+use Prim.Native.Nat.{ℕ, _+_, _-_, _≤_}
+use mathlib.Core.Bool.{true, false, false≢true}
 use mathlib.Core.List.{List}
-use mathlib.Core.Logic.{_⊎_, inl, inr, ⊎-elim}
+use mathlib.Core.Logic.{⊎-elim}
 use mathlib.Core.Path.{_≡_, refl, sym, ap, _∙_, subst⁻¹}
 use native.Mathlib.Decide.{ℕ-discrete}
 use native.Mathlib.Omega.{arith}
-use borrow.Author.Tests.{eqb-true, eq-eqb, ne-eqb, leb-true, le-leb, lt-ltb, not-true}
-use lib.Dec.{eqb, leb, ltb}
+use borrow.Author.Tests.{eq-eqb, ne-eqb, leb-true, le-leb, lt-ltb}
+use lib.Dec.{eqb, leb}
 use lib.ListN.{length, getD, drop}
 use Rattle.flash.specs.Flash.{startOf}
-use Rattle.sums.specs.declared.Sums.{Sums}
 use Rattle.sums.specs.Sum.{mostBlocks, freshSums}
 use Rattle.session.specs.Codes.{idle, downloadSync, downloadIdle, manifestSync, uploadIdle, error, ok, stalled}
-use Rattle.session.specs.Session.{appEnd, phaseOf, downOf, noDownload, upOf, flashStream, infoBytes, boardOf, withPhase, withUp, withSums, streamLength, freshOf, zerosOf}
+use Rattle.session.specs.Session.{appEnd, phaseOf, downOf, noDownload, upOf, flashStream, infoBytes, boardOf, withPhase, withUp, withSums, streamLength, zerosOf}
 use Rattle.session.specs.Rules.{splitRule, stateRule, statusRule, running, downloadRule, uploadRule, afterRule, inApplication}
 use Rattle.session.specs.Rules.{rangeRule, placeRule, flagsRule, fitOf}
-use Rattle.session.specs.Fit.{Fit}
-use Rattle.session.specs.declared.Board.{Board}
 use Rattle.session.specs.declared.Phase.{Phase}
 use Rattle.session.specs.declared.Download.{Download}
 use Rattle.session.specs.declared.Upload.{Upload}
 use Rattle.session.specs.declared.Session.{Session}
-use Rattle.session.proofs.Laws.{Kept, fit-kept, kept-fit, fit-facts, facts-fit, end-in-flash, split-facts, zeros-unfit, fresh-fit, at-six}
+use Rattle.session.proofs.Laws.{fit-kept, kept-fit, fit-facts, end-in-flash, split-facts, zeros-unfit, fresh-fit}
 use Rattle.session.proofs.Tests.{left-of, right-of, or-unless, where-true, pick-most}
-use Rattle.request.specs.Request.{wordAt, wLength, dataAsked}
+use Rattle.request.specs.Request.{wordAt, wLength}
 use Rattle.stream.proofs.Laws.{next-length}
 use Rattle.moves.specs.declared.Answer.{Answer}
 use Rattle.moves.specs.declared.Outcome.{Outcome}
@@ -36,11 +33,11 @@ use Rattle.command.specs.Download.{longAt, wroteOf, infoOf, binOf, prefixFor}
 use Rattle.command.proofs.Laws.{ready-place}
 use Rattle.loader.specs.Reply.{entered, polled, getstatusOf, getstateOf, queryOf, answered}
 use Rattle.loader.specs.Upload.{placeOf, answerOf, uploadEnds, uploadingAt, uploadedOf, uploadOf}
-use Rattle.loader.specs.Step.{startable, freshStart, startOutcome, ready, stepOf}
+use Rattle.loader.specs.Step.{startable, freshStart, startOutcome}
 use Rattle.loader.proofs.Laws.{place-in-stream, start-split, start-sized}
 use Rattle.demands.specs.Calls.{Call, Site, called, next}
 use Rattle.demands.specs.One.{heard, StaysFit, Allowed, StartsFit, RefusedStart, FaultStatus, not-erased, out-of-range, bytes-missing, bad-command}
-use Rattle.demands.proofs.Ways.{pick, Loads, wipedOf, Ways, every-way}
+use Rattle.demands.proofs.Ways.{pick, every-way}
 use Rattle.demands.proofs.OneOutside.{piece-place}
 use Rattle.demands.proofs.OneRefused.{refused-holds, unfit-exactly-holds}
 
@@ -102,7 +99,6 @@ wrote-fit : (s : Session) (f : List ℕ) (at : ℕ) (bytes : List ℕ) (left : �
 unfolding wroteOf
 wrote-fit s f at bytes left e p =
     let k = fit-kept s e in
-    let e1 = startOf (appEnd (s .board)) in
     moved-kept (withSums s _) (phaseOf downloadSync ok downloadIdle) (downOf (at + length bytes) left) (k .split) (k .range) (k .flags) refl refl refl refl
     (rw (
       le-leb (startOf (s .board .a .0)) (at + length bytes) (omega arith),
@@ -186,9 +182,6 @@ stops p h a = rw (h, a)
 
 -- a poll keeps the rules
 module _ (s : Session) (e : fitOf s ≡ true) where
-  status : ℕ
-  status = s .phase .status .0
-
   not-uploading : (s .phase .state .0 ≡ uploadIdle → ⊥) → (p : Phase) → uploadRule p (s .up) ≡ true
   not-uploading n p = at-start p (s .up) (fit-facts s e .no-upload n)
 

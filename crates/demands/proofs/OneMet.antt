@@ -1,7 +1,7 @@
 -- The premises of demand 1 can be met: a flash of two blocks, the second the application's, and a call for each row of the answer table.
 -- Assumes nothing.
-use Prim.Native.Nat.{ℕ, _≤_, _<_}
-use mathlib.Core.Bool.{Bool, true, cond}
+use Prim.Native.Nat.{ℕ, _≤_}
+use mathlib.Core.Bool.{true, cond}
 use mathlib.Core.List.{List, [], _∷_}
 use mathlib.Core.Logic.{inl, inr}
 use mathlib.Core.Path.{_≡_, refl, sym, ap, _∙_}
@@ -15,10 +15,10 @@ use Rattle.session.specs.Rules.{fitOf}
 use Rattle.session.specs.declared.Board.{Board}
 use Rattle.session.proofs.Laws.{fresh-fit}
 use Rattle.request.specs.Request.{wLength, requestOf, allowedOf, formOf, setupOf}
-use Rattle.moves.specs.Answers.{Leaves, leaves}
-use Rattle.moves.specs.Moves.{stallOf, faultOf, resetOf, toError}
+use Rattle.moves.specs.Answers.{leaves}
+use Rattle.moves.specs.Moves.{stallOf, faultOf, resetOf}
 use Rattle.command.specs.Download.{wellFormed, carriedOut, commandOf, dnloadOf}
-use Rattle.loader.specs.Step.{ready, served, stepOf}
+use Rattle.loader.specs.Step.{served, stepOf}
 use Rattle.demands.specs.Calls.{Call, Site, called, next}
 use Rattle.demands.specs.One.{OutsideApp, heard, InError, Prepared, Allowed}
 use Rattle.demands.proofs.OneOutside.{outside-holds}

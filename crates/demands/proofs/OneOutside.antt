@@ -1,15 +1,14 @@
 -- Only the writes and the erase change flash, and each is a splice that lies in the application. Assumes nothing.
-use Prim.Native.Nat.{ℕ, _+_, _-_, _≤_, _<_}
+use Prim.Native.Nat.{ℕ, _≤_}
 use mathlib.Core.Bool.{true}
 use mathlib.Core.List.{List}
 use mathlib.Core.Logic.{inl, inr, ⊎-elim}
-use mathlib.Core.Path.{_≡_, refl, ap, _∙_}
+use mathlib.Core.Path.{_≡_, refl}
 use native.Mathlib.Omega.{arith}
-use lib.ListN.{length, getD, drop}
-use Rattle.flash.specs.Flash.{startOf, spliced, blank, erased}
+use lib.ListN.{length}
+use Rattle.flash.specs.Flash.{startOf, spliced, erased}
 use Rattle.flash.proofs.Laws.{spliced-length, spliced-other, length-blank}
 use Rattle.session.specs.Codes.{downloadIdle}
-use Rattle.session.specs.Session.{appEnd}
 use Rattle.session.specs.Rules.{running}
 use Rattle.session.specs.declared.Board.{Board}
 use Rattle.session.specs.declared.Session.{Session}
@@ -22,9 +21,9 @@ use Rattle.command.proofs.Laws.{ready-within, ready-place}
 use Rattle.moves.specs.Moves.{stallOf, unfitOf, faultOf, resetOf}
 use Rattle.loader.specs.Reply.{getstatusOf, getstateOf, queryOf, answered}
 use Rattle.loader.specs.Upload.{uploadOf}
-use Rattle.demands.specs.Calls.{Call, Site, called, next}
-use Rattle.demands.specs.One.{OutsideApp, Untouched, Outside}
-use Rattle.demands.proofs.Ways.{Loads, Ways, every-way}
+use Rattle.demands.specs.Calls.{called, next}
+use Rattle.demands.specs.One.{Untouched, Outside}
+use Rattle.demands.proofs.Ways.{Loads, every-way}
 
 same : (b : Board) (f : List ℕ) → Untouched b f f
 same b f = record { as-long = refl; as-before = λ k o. refl }

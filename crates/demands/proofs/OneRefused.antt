@@ -1,16 +1,16 @@
 -- The answers that refuse leave what their definitions write down, and a call is unfit by the first test alone. Assumes nothing.
-use Prim.Native.Nat.{ℕ, _-_, _≤_}
-use mathlib.Core.Bool.{Bool, true, false, cond, _&&_, false≢true}
+use Prim.Native.Nat.{ℕ}
+use mathlib.Core.Bool.{true, false, cond, _&&_, false≢true}
 use mathlib.Core.List.{List}
 use mathlib.Core.Logic.{_⊎_, inl, inr, ⊎-elim}
 use mathlib.Core.Path.{_≡_, refl, sym, ap, _∙_}
 use native.Mathlib.Decide.{ℕ-discrete}
 use native.Mathlib.Omega.{arith}
-use borrow.Author.Tests.{eqb-true, eqb-false, eq-eqb, ne-eqb, leb-true, le-leb}
+use borrow.Author.Tests.{eqb-true, eq-eqb, ne-eqb, leb-true, le-leb}
 use lib.Dec.{eqb, leb}
 use lib.ListN.{length, getD}
 use Rattle.flash.specs.Flash.{startOf}
-use Rattle.session.specs.Codes.{error, stalled}
+use Rattle.session.specs.Codes.{stalled}
 use Rattle.session.specs.Session.{wholeUpload, freshOf}
 use Rattle.session.specs.Rules.{fitOf}
 use Rattle.session.specs.declared.Session.{Session}
@@ -23,9 +23,9 @@ use Rattle.loader.specs.Reply.{getstatusOf, getstateOf, queryOf, answered}
 use Rattle.loader.specs.Upload.{uploadOf}
 use Rattle.loader.specs.Step.{ready, stepOf}
 use Rattle.demands.specs.Calls.{Call, Site, called}
-use Rattle.demands.specs.One.{heard, Quiet, InError, Stalled, Unfit, FaultStatus, Faulted, AsFresh, ResetAsked, Rows, Refused}
+use Rattle.demands.specs.One.{heard, InError, Stalled, FaultStatus, Faulted, AsFresh, Rows, Refused}
 use Rattle.demands.specs.One.{SaysDnload, Prepared, UnfitExactly}
-use Rattle.demands.proofs.Ways.{pick, Ways, every-way}
+use Rattle.demands.proofs.Ways.{pick, every-way}
 
 -- what a move to state 10 leaves
 errored : (s : Session) (status : ℕ) → InError s (toError s status) status

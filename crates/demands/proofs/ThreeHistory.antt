@@ -1,13 +1,13 @@
 -- The sums are right after a start, and a call keeps them so: where it changes flash, the blocks of the change are summed anew.
 -- Assumes nothing.
-use Prim.Native.Nat.{ℕ, _+_, _-_, _≤_, _<_}
+use Prim.Native.Nat.{ℕ, _+_, _≤_}
 use mathlib.Core.Bool.{true}
 use mathlib.Core.List.{List, [], _∷_}
-use mathlib.Core.Path.{_≡_, refl, sym, ap, _∙_, subst}
+use mathlib.Core.Path.{_≡_, refl, sym, ap, _∙_, subst, subst⁻¹}
 use native.Mathlib.Omega.{arith}
 use borrow.Author.Tests.{eqb-true, eqb-false}
 use lib.Dec.{eqb}
-use lib.ListN.{length, getD, drop}
+use lib.ListN.{length, drop}
 use Rattle.flash.specs.Flash.{startOf, holderOf, nextStart, range, spliced, blank, erased}
 use Rattle.flash.proofs.Laws.{spliced-back, length-blank}
 use Rattle.sums.specs.Sum.{refreshed, Right}
@@ -27,11 +27,11 @@ use Rattle.command.specs.Download.{longAt, sumsAfter, wroteOf, infoOf, binOf}
 use Rattle.command.proofs.Laws.{ready-split, ready-within, ready-place, ready-range}
 use Rattle.loader.specs.Reply.{polled, getstatusOf, getstateOf, queryOf, answered}
 use Rattle.loader.specs.Upload.{uploadEnds, uploadingAt, uploadedOf, uploadOf}
-use Rattle.loader.specs.Step.{freshStart, startOutcome}
+use Rattle.loader.specs.Step.{freshStart}
 use Rattle.demands.specs.Calls.{Call, Site, called, next, after}
-use Rattle.demands.specs.One.{Allowed}
-use Rattle.demands.specs.Three.{begun, History}
-use Rattle.demands.proofs.Ways.{pick, Loads, Ways, every-way}
+use Rattle.demands.specs.One.{Untouched, Allowed}
+use Rattle.demands.specs.Three.{begun, Held, History}
+use Rattle.demands.proofs.Ways.{pick, every-way}
 use Rattle.demands.proofs.OneOutside.{outside-holds, piece-place}
 use Rattle.demands.proofs.OneFit.{stays-fit-holds, starts-fit-holds, started}
 
@@ -136,53 +136,49 @@ sums-stay at c right =
       idles = λ _. right;
     })
 
--- what holds between calls: a session with its rules kept, of an unchanged board, that has its flash and the sums of it
-pub record Sound (b : Board) (at : Site) : Type 0 where
-  pub ready : Ready (at .session) (at .flash)
-  pub board : at .session .board ≡ b
-  pub right : Right (at .session .sums) (at .flash) (b .a .0) (appEnd b)
-
-pub sound-next : (b : Board) (at : Site) (c : Call) → Sound b at → Sound b (next at c)
-sound-next b at c h =
-    let same = board-stays at c in
-    let own : Summed (at .session) (at .flash) =
-    subst (λ (x : Board). Right (at .session .sums) (at .flash) (x .a .0) (appEnd x)) (sym (h .board)) (h .right)
-    in
+-- changes outside the application add up to none
+untouched-twice : (b : Board) (f g h : List ℕ) → Untouched b f g → Untouched b g h → Untouched b f h
+untouched-twice b f g h p q =
     record {
-      ready =
-          record {
-            fit = stays-fit-holds at c (h .ready .fit);
-            sized =
-                outside-holds at c .as-long ∙ h .ready .sized ∙ ap (λ (x : Board). startOf (x .b .0)) (sym same);
-          };
-      board = same ∙ h .board;
-      right =
-          subst (λ (x : Board). Right (next at c .session .sums) (next at c .flash) (x .a .0) (appEnd x)) (h .board)
-          (sums-stay at c own);
+      as-long = q .as-long ∙ p .as-long;
+      as-before = λ k o. q .as-before k o ∙ p .as-before k o;
     }
 
-pub sound-after : (b : Board) (at : Site) (calls : List Call) → Sound b at → Sound b (after at calls)
-unfolding after
-sound-after b at [] h = h
-sound-after b at (c ∷ cs) h = sound-after b (next at c) cs (sound-next b at c h)
+-- a call keeps all that a history holds
+held-next : (f : List ℕ) (b : Board) (at : Site) (c : Call) → Held f b at → Held f b (next at c)
+held-next f b at c h =
+    let own : Summed (at .session) (at .flash) =
+    subst⁻¹ (λ (x : Board). Right (at .session .sums) (at .flash) (x .a .0) (appEnd x)) (h .board-kept) (h .sums-right)
+    in
+    record {
+      board-kept = board-stays at c ∙ h .board-kept;
+      fit = stays-fit-holds at c (h .fit);
+      sums-right =
+          subst (λ (x : Board). Right (next at c .session .sums) (next at c .flash) (x .a .0) (appEnd x)) (h .board-kept)
+          (sums-stay at c own);
+      outside-kept =
+          untouched-twice b f (at .flash) (next at c .flash) (h .outside-kept)
+          (subst (λ (x : Board). Untouched x (at .flash) (next at c .flash)) (h .board-kept) (outside-holds at c));
+    }
 
-pub sound-begun : (f : List ℕ) (a b part0 part1 : ℕ) → Allowed f a b → Sound (boardOf a b part0 part1) (begun f a b part0 part1)
+pub held-after : (f : List ℕ) (b : Board) (at : Site) (calls : List Call) → Held f b at → Held f b (after at calls)
+unfolding after
+held-after f b at [] h = h
+held-after f b at (c ∷ cs) h = held-after f b (next at c) cs (held-next f b at c h)
+
+pub held-begun : (f : List ℕ) (a b part0 part1 : ℕ) → Allowed f a b → Held f (boardOf a b part0 part1) (begun f a b part0 part1)
 unfolding begun freshStart freshOf
-sound-begun f a b part0 part1 h =
+held-begun f a b part0 part1 h =
     let e = started f a b part0 part1 h in
     let board = boardOf a b part0 part1 in
-    let same : startOutcome f a b part0 part1 .session .board ≡ board = ap (λ (o : Outcome). o .session .board) e in
     record {
-      ready =
-          record {
-            fit = starts-fit-holds f a b part0 part1 h .fit;
-            sized = h .sized ∙ ap (λ (x : Board). startOf (x .b .0)) (sym same);
-          };
-      board = same;
-      right =
-          subst (λ (o : Outcome). Right (o .session .sums) f a (appEnd board)) (sym e) (fresh-right f a (appEnd board));
+      board-kept = ap (λ (o : Outcome). o .session .board) e;
+      fit = starts-fit-holds f a b part0 part1 h .fit;
+      sums-right =
+          subst⁻¹ (λ (o : Outcome). Right (o .session .sums) f a (appEnd board)) e (fresh-right f a (appEnd board));
+      outside-kept = record { as-long = refl; as-before = λ k o. refl };
     }
 
 pub history-holds : History
 history-holds f a b part0 part1 h calls =
-    sound-after (boardOf a b part0 part1) (begun f a b part0 part1) calls (sound-begun f a b part0 part1 h) .right
+    held-after f (boardOf a b part0 part1) (begun f a b part0 part1) calls (held-begun f a b part0 part1 h)

@@ -1,21 +1,20 @@
 -- A command writes where it names, and while a download runs its place and what remains of it lie in the bytes that its PROG named.
 -- Assumes nothing.
-use Prim.Native.Nat.{ℕ, _+_, _-_, _≤_, _<_}
-use mathlib.Core.Bool.{Bool, true, false, cond, _&&_, _||_, false≢true}
+use Prim.Native.Nat.{ℕ, _+_, _-_, _≤_}
+use mathlib.Core.Bool.{Bool, true, false, _&&_, false≢true}
 use mathlib.Core.List.{List, [], _∷_}
-use mathlib.Core.Logic.{_⊎_, inl, inr, ⊎-elim}
+use mathlib.Core.Logic.{inl, inr, ⊎-elim}
 use mathlib.Core.Path.{_≡_, refl, sym, ap, _∙_, subst, subst⁻¹}
 use native.Mathlib.Decide.{ℕ-discrete}
 use native.Mathlib.Omega.{arith}
-use borrow.Author.Tests.{eqb-true, eqb-false, eq-eqb, ne-eqb}
+use borrow.Author.Tests.{eqb-true, eq-eqb, ne-eqb}
 use lib.Dec.{eqb}
 use lib.ListN.{length, getD, drop}
-use Rattle.flash.specs.Flash.{startOf, spliced, blank, erased}
+use Rattle.flash.specs.Flash.{startOf, blank, erased}
 use Rattle.flash.proofs.Laws.{spliced-other, length-blank}
 use Rattle.session.specs.Codes.{idle, downloadSync, downloadIdle, manifestSync, error}
-use Rattle.session.specs.Session.{appEnd, boardOf, phaseOf, freshOf}
-use Rattle.session.specs.Rules.{running, inApplication}
-use Rattle.session.specs.declared.Board.{Board}
+use Rattle.session.specs.Session.{phaseOf, freshOf}
+use Rattle.session.specs.Rules.{running}
 use Rattle.session.specs.declared.Phase.{Phase}
 use Rattle.session.specs.declared.Session.{Session}
 use Rattle.session.proofs.Tests.{right-of, either}
@@ -24,7 +23,6 @@ use Rattle.request.specs.declared.Request.{Request}
 use Rattle.moves.specs.declared.Outcome.{Outcome}
 use Rattle.moves.specs.Answers.{Leaves}
 use Rattle.moves.specs.Moves.{movedTo, stallOf, unfitOf, faultOf, resetOf}
-use Rattle.command.specs.Ready.{Ready, Place}
 use Rattle.command.specs.Download.{longAt, wroteOf, infoOf, binOf}
 use Rattle.command.proofs.Laws.{ready-within, ready-range}
 use Rattle.loader.specs.Reply.{entered, polled, getstatusOf, getstateOf, queryOf, answered}
@@ -34,10 +32,9 @@ use Rattle.demands.specs.Calls.{Call, Site, called, next, after}
 use Rattle.demands.specs.One.{heard, Allowed}
 use Rattle.demands.specs.Three.{begun, Named, none, NotNamed, progNames, eraseNames, commandNames, isDnload, tookDnload}
 use Rattle.demands.specs.Three.{mayChange, noteOf, notedAfter, OnlyNamed}
-use Rattle.demands.proofs.Ways.{pick, Loads, Ways, every-way}
+use Rattle.demands.proofs.Ways.{pick, every-way}
 use Rattle.demands.proofs.OneOutside.{piece-place}
 use Rattle.demands.proofs.OneFit.{started, entered-sync, entered-manifest, entered-same}
-use Rattle.demands.proofs.ThreeHistory.{Sound, sound-after, sound-begun}
 
 no-right : (a b : Bool) → b ≡ false → (a && b) ≡ false
 no-right true b e = e

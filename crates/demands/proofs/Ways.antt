@@ -125,17 +125,16 @@ module _ (s : Session) (f setup d reply : List ℕ) (P : Leaves → Type 0) (w :
   carried-ways : Loads s f setup idle → AfterDone (carriedOut (getD d 0 0) s f d)
   unfolding AfterDone carriedOut
   carried-ways l =
-      let code = getD d 0 0 in
-      pick AfterDone (eqb code prog) _ _ (λ e. prog-ways l (eqb-true _ _ e))
+      pick AfterDone (eqb (getD d 0 0) prog) _ _ (λ e. prog-ways l (eqb-true _ _ e))
       (λ _.
-      pick AfterDone (eqb code read) _ _ (λ _. read-ways l)
+      pick AfterDone (eqb (getD d 0 0) read) _ _ (λ _. read-ways l)
       (λ _.
-      pick AfterDone (eqb code check) _ _ (λ _. check-ways l)
+      pick AfterDone (eqb (getD d 0 0) check) _ _ (λ _. check-ways l)
       (λ _.
-      pick AfterDone (eqb code erase) _ _ (λ e. erase-ways l (eqb-true _ _ e))
+      pick AfterDone (eqb (getD d 0 0) erase) _ _ (λ e. erase-ways l (eqb-true _ _ e))
       (λ _.
-      pick AfterDone (eqb code info) _ _ (λ _. w .informs l)
-      (λ _. pick AfterDone (eqb code bin) _ _ (λ _. w .bins l) (λ _. w .resets l))))))
+      pick AfterDone (eqb (getD d 0 0) info) _ _ (λ _. w .informs l)
+      (λ _. pick AfterDone (eqb (getD d 0 0) bin) _ _ (λ _. w .bins l) (λ _. w .resets l))))))
 
   command-ways : Loads s f setup idle → AfterDone (commandOf s f d)
   unfolding AfterDone commandOf

@@ -9,6 +9,8 @@ use lib.ListN.{getD}
 use Rattle.flash.specs.Flash.{startOf}
 use Rattle.sums.specs.Sum.{Right}
 use Rattle.session.specs.Session.{boardOf, appEnd}
+use Rattle.session.specs.Rules.{fitOf}
+use Rattle.session.specs.declared.Board.{Board}
 use Rattle.session.specs.declared.Session.{Session}
 use Rattle.request.specs.Request.{wordAt, requestOf}
 use Rattle.request.specs.declared.Request.{Request}
@@ -18,19 +20,26 @@ use Rattle.moves.specs.Answers.{Leaves}
 use Rattle.command.specs.Download.{longAt}
 use Rattle.loader.specs.Step.{startOutcome}
 use Rattle.demands.specs.Calls.{Call, Site, called, next, after}
-use Rattle.demands.specs.One.{heard, Allowed}
+use Rattle.demands.specs.One.{Untouched, heard, Allowed}
 
 -- the site that a start leaves: its session, and the flash that it read
 unfoldable pub begun : List ℕ → ℕ → ℕ → ℕ → ℕ → Site
 begun f a b part0 part1 = record { session = startOutcome f a b part0 part1 .session; flash = f }
 
--- History: start on any flash of an allowed size and split, then serve any list of calls, each with the session last handed back:
--- the kept sums are those of the flash as it now is. A list is any, so this holds after each of its calls too
+-- what a history leaves of a start on flash f: A, B and the part numbers as given, a fit session, sums that are those of the flash as it
+-- now is, and every byte outside the application as it was at the start
+pub record Held (f : List ℕ) (board : Board) (at : Site) : Type 0 where
+  pub board-kept : at .session .board ≡ board
+  pub fit : fitOf (at .session) ≡ true
+  pub sums-right : Right (at .session .sums) (at .flash) (board .a .0) (appEnd board)
+  pub outside-kept : Untouched board f (at .flash)
+
+-- History: start on any flash of an allowed size and split, then serve any list of calls, each with the session last handed back. A
+-- list is any, so this holds after each of its calls too
 abbrev pub History : Type 0
 History =
     (f : List ℕ) (a b part0 part1 : ℕ) → Allowed f a b → (calls : List Call)
-    → Right (after (begun f a b part0 part1) calls .session .sums) (after (begun f a b part0 part1) calls .flash) a
-    (appEnd (boardOf a b part0 part1))
+    → Held f (boardOf a b part0 part1) (after (begun f a b part0 part1) calls)
 
 -- some bytes of flash that were named: where they begin, and how many they are
 pub record Named : Type 0 where
