@@ -1,11 +1,11 @@
 -- What demand 2 asks for can be had: inputs that meet each of its premises, with A = 1 and B = 2. Assumes nothing.
-use Prim.Native.Nat.{ℕ, _+_, _*_}
+use Prim.Native.Nat.{ℕ, _+_, _*_, _≤_}
 use mathlib.Core.Bool.{true}
-use mathlib.Core.List.{List, [], _∷_}
-use mathlib.Core.Logic.{_⊎_, inl, inr}
-use mathlib.Core.Path.{_≡_, refl}
+use mathlib.Core.List.{List, [], _∷_, _++_}
+use mathlib.Core.Logic.{inl, inr}
+use mathlib.Core.Path.{_≡_, refl, sym}
 use native.Mathlib.Omega.{arith}
-use lib.ListN.{length}
+use lib.ListN.{length, getD}
 use Rattle.flash.specs.Flash.{startOf, blank}
 use Rattle.flash.proofs.Laws.{length-blank}
 use Rattle.session.specs.Session.{boardOf, phaseOf, downOf, upOf, appEnd, streamLength, zerosOf}
@@ -14,8 +14,9 @@ use Rattle.session.specs.declared.Session.{Session}
 use Rattle.request.specs.Request.{setupOf, dataAsked}
 use Rattle.request.specs.declared.Request.{Request}
 use Rattle.demands.specs.Calls.{Call, Site}
-use Rattle.demands.specs.Two.{Sound, Asks, Refused, StartsAt, Says, Form, EraseAsked, ProgAsked, PieceAsked}
+use Rattle.demands.specs.Two.{Sound, Asks, Refused, StartsAt, Says, Form}
 use Rattle.demands.specs.Two.Form.{dnload, upload, getstatus, clrstatus, getstate, abort, query}
+use Rattle.demands.specs.TwoCommands.{Commanded, Named, Counted, Legal, Blank, NotBlank}
 use Rattle.demands.proofs.Bytes.{blank-byte}
 
 -- a session of two blocks in a state, with a download and a place in the stream, over an erased flash
@@ -64,63 +65,48 @@ small-sound s setup bytes b eight brought fit =
       fit = fit;
     }
 
-pub EraseWorks-met : EraseAsked (small 2 0 0 0) (brings (4 ∷ 0 ∷ 1 ∷ 0 ∷ 1 ∷ 0 ∷ 0 ∷ 0 ∷ [])) 1 1
-unfolding fitOf streamLength appEnd dataAsked setupOf
-EraseWorks-met =
-    record {
-      asks =
-          record {
-            sound = small-sound (small 2 0 0 0 .session) _ _ refl refl refl refl;
-            form = dnload (so _ _ _ _ _) (omega arith);
-          };
-      idle = refl;
-      command = refl;
-      block-is = refl;
-      count-is = refl;
-      some = omega arith;
-      from = omega arith;
-      to = omega arith;
-    }
-
--- two bytes, of which the first comes with the command
-pub ProgramWorks-met-start : ProgAsked (small 2 0 0 0) (brings (1 ∷ 0 ∷ 1 ∷ 0 ∷ 2 ∷ 0 ∷ 0 ∷ 0 ∷ 7 ∷ [])) 1 2 (7 ∷ [])
-unfolding fitOf streamLength appEnd dataAsked setupOf
-ProgramWorks-met-start =
-    record {
-      asks =
-          record {
-            sound = small-sound (small 2 0 0 0 .session) _ _ refl refl refl refl;
-            form = dnload (so _ _ _ _ _) (omega arith);
-          };
-      idle = refl;
-      command = refl;
-      block-is = refl;
-      len-is = refl;
-      first-is = refl;
-      some = omega arith;
-      from = omega arith;
-      to = omega arith;
-      few = omega arith;
-      erased = λ i lt. blank-byte 2048 (1024 + i) (omega arith);
-    }
-
-pub ProgramWorks-met-piece : PieceAsked (small 5 0 1024 1) (brings (7 ∷ []))
-unfolding fitOf streamLength appEnd dataAsked setupOf
-ProgramWorks-met-piece =
-    record {
-      asks =
-          record {
-            sound = small-sound (small 5 0 1024 1 .session) _ _ refl refl refl refl;
-            form = dnload (so _ _ _ _ _) (omega arith);
-          };
-      loading = refl;
-      some = omega arith;
-      few = omega arith;
-    }
-
 module _ (state status place left : ℕ) (fit : fitOf (small state status place left .session) ≡ true) where
   met : (r : Request) (n : ℕ) (setup bytes : List ℕ) → length setup ≡ 8 → length bytes ≡ dataAsked setup → Form setup n r → Asks (small state status place left) (lent setup bytes) r n
   met r n setup bytes eight brought form = record { sound = small-sound (small state status place left .session) setup bytes refl eight brought fit; form = form }
+
+-- a command of a few bytes in state 2, and what it names
+commanded :
+    (bytes : List ℕ) (code : ℕ) → length bytes ≤ 1024 → 1 ≤ length bytes → getD bytes 0 0 ≡ code → Commanded (small 2 0 0 0) (brings bytes) code (length bytes)
+unfolding fitOf streamLength appEnd dataAsked setupOf
+commanded bytes code few some e =
+    let long : length bytes + 0 * 256 ≡ length bytes = omega arith in
+    record {
+      asks = met 2 0 0 0 refl Request.Dnload (length bytes) (setups 0x21 1 0 (length bytes) 0) bytes refl (sym long) (dnload (rw long at (so 0x21 1 0 (length bytes) 0)) few);
+      some = some;
+      idle = refl;
+      command = e;
+    }
+
+-- the eight bytes of a command on block 1 with a length of one byte, or of 16 bits
+abbrev pub onOne : ℕ → ℕ → ℕ → List ℕ
+onOne code low high = code ∷ 0 ∷ 1 ∷ 0 ∷ low ∷ high ∷ 0 ∷ 0 ∷ []
+
+pub EraseWorks-met : Commanded (small 2 0 0 0) (brings (onOne 4 1 0)) 4 8 × Counted (brings (onOne 4 1 0)) 1 1 × Legal (small 2 0 0 0) 1 (startOf 1)
+EraseWorks-met = (
+  commanded (onOne 4 1 0) 4 (omega arith) (omega arith) refl,
+  record { block-is = refl; count-is = refl },
+  record { some = omega arith; from = omega arith; to = omega arith },
+)
+
+-- two bytes, of which the first comes with the command
+pub ProgramWorks-met-start :
+    Commanded (small 2 0 0 0) (brings (onOne 1 2 0 ++ (7 ∷ []))) 1 9 × Named (brings (onOne 1 2 0 ++ (7 ∷ []))) 1 2
+    × Legal (small 2 0 0 0) 1 2 × Blank (small 2 0 0 0) 1 2
+ProgramWorks-met-start = (
+  commanded (onOne 1 2 0 ++ (7 ∷ [])) 1 (omega arith) (omega arith) refl,
+  record { block-is = refl; len-is = refl },
+  record { some = omega arith; from = omega arith; to = omega arith },
+  λ i lt. blank-byte 2048 (1024 + i) (omega arith),
+)
+
+pub ProgramWorks-met-piece : (x : ℕ) (place : ℕ) → fitOf (small 5 0 place 1 .session) ≡ true → Asks (small 5 0 place 1) (brings (x ∷ [])) Request.Dnload 1
+unfolding dataAsked setupOf
+ProgramWorks-met-piece x place fit = met 5 0 place 1 fit Request.Dnload 1 _ _ refl refl (dnload (so _ _ _ _ _) (omega arith))
 
 pub close-met : Asks (small 5 0 1024 0) (lent (setups 0x21 1 0 0 0) []) Request.Dnload 0
 unfolding fitOf streamLength appEnd dataAsked setupOf

@@ -1,4 +1,5 @@
 -- What the user is promised: the statements.
 pub mod Calls
 pub mod Two
+pub mod TwoCommands
 pub mod Tied
