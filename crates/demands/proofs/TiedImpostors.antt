@@ -136,7 +136,7 @@ upload-asks : (state place : ℕ) → fitOf (placed state 0 0 0 place .session) 
 unfolding dataAsked setupOf
 upload-asks state place fit =
     record {
-      sound = small-sound (placed state 0 0 0 place .session) _ _ refl refl refl fit;
+      sound = small-sound (placed state 0 0 0 place .session) (blank 2048) _ _ refl (length-blank 2048) refl refl fit;
       form = upload (so _ _ _ _ _) (omega arith) (omega arith);
     }
 
