@@ -9,9 +9,12 @@ pub mod ThreeNamed
 pub mod Bytes
 pub mod TwoLaws
 pub mod TwoForms
+pub mod TwoOutcomes
+pub mod TwoDownloads
 pub mod TwoWorks
-pub mod TwoMet
+pub mod TwoCommands
 pub mod TwoRows
+pub mod TwoMet
 pub mod TiedDesk
 pub mod TiedOne
 pub mod TiedImpostors

@@ -23,7 +23,7 @@ use Rattle.loader.specs.Reply.{answered, entered, polled, pollTime, getstatusOf
 use Rattle.loader.specs.Step.{startable, freshStart, startOutcome, served}
 use Rattle.demands.specs.Calls.{Call, Site, called, next, after}
 use Rattle.demands.specs.Two.{Sound}
-use Rattle.demands.specs.Tied.{Case, Meets, Expected, Desk, freshSite, getStatus, getState, clrStatus, query, eraseAll, wiped, progOne, progZero, seven, close, dnload, case}
+use Rattle.demands.specs.Tied.{Case, Meets, Expected, All, Desk, freshSite, getStatus, eraseAll, wiped, marred, progOne, progZero, seven, close, case, deskCases}
 use Rattle.demands.proofs.Bytes.{erased-length, erased-byte, erased-part, not-erased, spliced-none, spliced-byte}
 use Rattle.demands.proofs.TwoLaws.{sound-served, sound-stalled, next-from}
 
@@ -55,7 +55,7 @@ module _ (p q : ℕ) (f buffer : List ℕ) (sized : length f ≡ startOf 64) (ro
   abbrev site : Session → List ℕ → Site
   site s g = record { session = s; flash = g }
 
-  begins : freshSite p q f buffer ≡ site (held 2 0 2 0 0 (freshSums f 16 64)) f
+  begins : freshSite p q f ≡ site (held 2 0 2 0 0 (freshSums f 16 64)) f
   unfolding startOutcome startable freshStart freshOf wholeUpload appEnd
   begins = rw (eq-eqb _ _ sized)
 
@@ -72,10 +72,10 @@ module _ (p q : ℕ) (f buffer : List ℕ) (sized : length f ≡ startOf 64) (ro
 
   -- the flash after an erase of the application, and with a zero byte at its start
   abbrev w : List ℕ
-  w = wiped p q f buffer
+  w = wiped f
 
   abbrev z : List ℕ
-  z = spliced w (startOf 16) (0x00 ∷ [])
+  z = marred f
 
   w-long : length w ≡ startOf 64
   w-long = erased-length f 16 48 (omega arith) ∙ sized
@@ -93,54 +93,54 @@ module _ (p q : ℕ) (f buffer : List ℕ) (sized : length f ≡ startOf 64) (ro
 
   -- where the calls lead to
   module _ (sums : Sums) where
-    after-erase : next (site (held 2 0 2 0 0 sums) f) (eraseAll p q f buffer) ≡ site (held 3 0 2 0 0 (refreshed sums w 16 64 16 64)) w
+    after-erase : next (site (held 2 0 2 0 0 sums) f) (eraseAll buffer) ≡ site (held 3 0 2 0 0 (refreshed sums w 16 64 16 64)) w
     unfolding fitOf streamLength appEnd dataAsked setupOf formOf allowedOf served dnloadOf commandOf wellFormed carriedOut eraseOf movedTo
-    after-erase = next-from _ _ _ (serves (held 2 0 2 0 0 sums) f (eraseAll p q f buffer) refl sized refl refl refl refl refl)
+    after-erase = next-from _ _ _ (serves (held 2 0 2 0 0 sums) f (eraseAll buffer) refl sized refl refl refl refl refl)
 
-    after-seven : next (site (held 2 0 2 0 0 sums) f) (seven p q f buffer) ≡ site (held 10 0x0B 2 0 0 sums) f
+    after-seven : next (site (held 2 0 2 0 0 sums) f) (seven buffer) ≡ site (held 10 0x0B 2 0 0 sums) f
     unfolding fitOf streamLength appEnd dataAsked setupOf formOf allowedOf served dnloadOf commandOf wellFormed faultOf movedTo
-    after-seven = next-from _ _ _ (serves (held 2 0 2 0 0 sums) f (seven p q f buffer) refl sized refl refl refl refl refl)
+    after-seven = next-from _ _ _ (serves (held 2 0 2 0 0 sums) f (seven buffer) refl sized refl refl refl refl refl)
 
-    after-poll : (g : List ℕ) → length g ≡ startOf 64 → next (site (held 3 0 2 0 0 sums) g) (getStatus p q f buffer) ≡ site (held 2 0 2 0 0 sums) g
+    after-poll : (g : List ℕ) → length g ≡ startOf 64 → next (site (held 3 0 2 0 0 sums) g) (getStatus buffer) ≡ site (held 2 0 2 0 0 sums) g
     unfolding fitOf streamLength appEnd dataAsked setupOf formOf allowedOf served getstatusOf answered polled entered pollTime
-    after-poll g long = next-from _ _ _ (serves (held 3 0 2 0 0 sums) g (getStatus p q f buffer) refl long refl refl refl refl refl)
+    after-poll g long = next-from _ _ _ (serves (held 3 0 2 0 0 sums) g (getStatus buffer) refl long refl refl refl refl refl)
 
     -- a PROG of one byte that brings none, and one that brings a zero
     one-sums : Sums
     one-sums = sumsAfter (boardOf 16 64 p q) sums w (startOf 16) 0
 
-    after-one : next (site (held 2 0 2 0 0 sums) w) (progOne p q f buffer) ≡ site (held 3 0 5 16384 1 one-sums) w
+    after-one : next (site (held 2 0 2 0 0 sums) w) (progOne buffer) ≡ site (held 3 0 5 16384 1 one-sums) w
     unfolding one-sums fitOf streamLength appEnd dataAsked setupOf formOf allowedOf served dnloadOf commandOf wellFormed carriedOut progOf wroteOf movedTo
     after-one =
         next-from _ _ (leaves (outcome Answer.Taken 0 (held 3 0 5 16384 1 one-sums)) w buffer)
-        (serves (held 2 0 2 0 0 sums) w (progOne p q f buffer) refl w-long refl refl refl refl refl
+        (serves (held 2 0 2 0 0 sums) w (progOne buffer) refl w-long refl refl refl refl refl
         ∙ rw (w-erased 16 1 (omega arith) (omega arith), spliced-none w (startOf 16)))
 
     zero-sums : Sums
     zero-sums = sumsAfter (boardOf 16 64 p q) sums z (startOf 16) 1
 
-    after-zero : next (site (held 2 0 2 0 0 sums) w) (progZero p q f buffer) ≡ site (held 3 0 5 16385 0 zero-sums) z
+    after-zero : next (site (held 2 0 2 0 0 sums) w) (progZero buffer) ≡ site (held 3 0 5 16385 0 zero-sums) z
     unfolding zero-sums fitOf streamLength appEnd dataAsked setupOf formOf allowedOf served dnloadOf commandOf wellFormed carriedOut progOf wroteOf movedTo
     after-zero =
         next-from _ _ (leaves (outcome Answer.Taken 0 (held 3 0 5 16385 0 zero-sums)) z buffer)
-        (serves (held 2 0 2 0 0 sums) w (progZero p q f buffer) refl w-long refl refl refl refl refl
+        (serves (held 2 0 2 0 0 sums) w (progZero buffer) refl w-long refl refl refl refl refl
         ∙ rw (w-erased 16 1 (omega arith) (omega arith)))
 
-    one-polled : next (site (held 3 0 5 16384 1 sums) w) (getStatus p q f buffer) ≡ site (held 5 0 2 16384 1 sums) w
+    one-polled : next (site (held 3 0 5 16384 1 sums) w) (getStatus buffer) ≡ site (held 5 0 2 16384 1 sums) w
     unfolding fitOf streamLength appEnd dataAsked setupOf formOf allowedOf served getstatusOf answered polled entered pollTime
-    one-polled = next-from _ _ _ (serves (held 3 0 5 16384 1 sums) w (getStatus p q f buffer) refl w-long refl refl refl refl refl)
+    one-polled = next-from _ _ _ (serves (held 3 0 5 16384 1 sums) w (getStatus buffer) refl w-long refl refl refl refl refl)
 
-    zero-polled : next (site (held 3 0 5 16385 0 sums) z) (getStatus p q f buffer) ≡ site (held 5 0 2 16385 0 sums) z
+    zero-polled : next (site (held 3 0 5 16385 0 sums) z) (getStatus buffer) ≡ site (held 5 0 2 16385 0 sums) z
     unfolding fitOf streamLength appEnd dataAsked setupOf formOf allowedOf served getstatusOf answered polled entered pollTime
-    zero-polled = next-from _ _ _ (serves (held 3 0 5 16385 0 sums) z (getStatus p q f buffer) refl z-long refl refl refl refl refl)
+    zero-polled = next-from _ _ _ (serves (held 3 0 5 16385 0 sums) z (getStatus buffer) refl z-long refl refl refl refl refl)
 
-    zero-closed : next (site (held 5 0 2 16385 0 sums) z) (close p q f buffer) ≡ site (held 6 0 2 0 0 sums) z
+    zero-closed : next (site (held 5 0 2 16385 0 sums) z) (close buffer) ≡ site (held 6 0 2 0 0 sums) z
     unfolding fitOf streamLength appEnd dataAsked setupOf formOf allowedOf served dnloadOf pieceOf closedOf movedTo
-    zero-closed = next-from _ _ _ (serves (held 5 0 2 16385 0 sums) z (close p q f buffer) refl z-long refl refl refl refl refl)
+    zero-closed = next-from _ _ _ (serves (held 5 0 2 16385 0 sums) z (close buffer) refl z-long refl refl refl refl refl)
 
-    closed-polled : next (site (held 6 0 2 0 0 sums) z) (getStatus p q f buffer) ≡ site (held 2 0 2 0 0 sums) z
+    closed-polled : next (site (held 6 0 2 0 0 sums) z) (getStatus buffer) ≡ site (held 2 0 2 0 0 sums) z
     unfolding fitOf streamLength appEnd dataAsked setupOf formOf allowedOf served getstatusOf answered polled entered pollTime
-    closed-polled = next-from _ _ _ (serves (held 6 0 2 0 0 sums) z (getStatus p q f buffer) refl z-long refl refl refl refl refl)
+    closed-polled = next-from _ _ _ (serves (held 6 0 2 0 0 sums) z (getStatus buffer) refl z-long refl refl refl refl refl)
 
   -- where the examples stand: fresh, fresh with all erased, a download of one byte open, one closed, and in error
   sums0 : Sums
@@ -149,27 +149,27 @@ module _ (p q : ℕ) (f buffer : List ℕ) (sized : length f ≡ startOf 64) (ro
   sums1 : Sums
   sums1 = refreshed sums0 w 16 64 16 64
 
-  at-start : after (freshSite p q f buffer) [] ≡ site (held 2 0 2 0 0 sums0) f
+  at-start : after (freshSite p q f) [] ≡ site (held 2 0 2 0 0 sums0) f
   unfolding after sums0
   at-start = begins
 
-  through-erase : (cs : List Call) (end : Site) → after (site (held 2 0 2 0 0 sums1) w) cs ≡ end → after (freshSite p q f buffer) (eraseAll p q f buffer ∷ getStatus p q f buffer ∷ cs) ≡ end
+  through-erase : (cs : List Call) (end : Site) → after (site (held 2 0 2 0 0 sums1) w) cs ≡ end → after (freshSite p q f) (eraseAll buffer ∷ getStatus buffer ∷ cs) ≡ end
   unfolding sums0 sums1
   through-erase cs end e =
-      onward _ _ _ _ _ (ap (λ (x : Site). next x (eraseAll p q f buffer)) begins ∙ after-erase sums0)
+      onward _ _ _ _ _ (ap (λ (x : Site). next x (eraseAll buffer)) begins ∙ after-erase sums0)
       (onward _ _ _ _ _ (after-poll sums1 w w-long) e)
 
-  at-erased : after (freshSite p q f buffer) (eraseAll p q f buffer ∷ getStatus p q f buffer ∷ []) ≡ site (held 2 0 2 0 0 sums1) w
+  at-erased : after (freshSite p q f) (eraseAll buffer ∷ getStatus buffer ∷ []) ≡ site (held 2 0 2 0 0 sums1) w
   at-erased = through-erase [] _ (ended _)
 
   at-one :
-      after (freshSite p q f buffer) (eraseAll p q f buffer ∷ getStatus p q f buffer ∷ progOne p q f buffer ∷ getStatus p q f buffer ∷ [])
+      after (freshSite p q f) (eraseAll buffer ∷ getStatus buffer ∷ progOne buffer ∷ getStatus buffer ∷ [])
       ≡ site (held 5 0 2 16384 1 (one-sums sums1)) w
   at-one = through-erase _ _ (onward _ _ _ _ _ (after-one sums1) (onward _ _ _ _ _ (one-polled (one-sums sums1)) (ended _)))
 
   at-zero :
-      after (freshSite p q f buffer)
-      (eraseAll p q f buffer ∷ getStatus p q f buffer ∷ progZero p q f buffer ∷ getStatus p q f buffer ∷ close p q f buffer ∷ getStatus p q f buffer ∷ [])
+      after (freshSite p q f)
+      (eraseAll buffer ∷ getStatus buffer ∷ progZero buffer ∷ getStatus buffer ∷ close buffer ∷ getStatus buffer ∷ [])
       ≡ site (held 2 0 2 0 0 (zero-sums sums1)) z
   at-zero =
       let x = zero-sums sums1 in
@@ -177,145 +177,161 @@ module _ (p q : ℕ) (f buffer : List ℕ) (sized : length f ≡ startOf 64) (ro
       (onward _ _ _ _ _ (after-zero sums1)
       (onward _ _ _ _ _ (zero-polled x) (onward _ _ _ _ _ (zero-closed x) (onward _ _ _ _ _ (closed-polled x) (ended _)))))
 
-  at-error : after (freshSite p q f buffer) (seven p q f buffer ∷ []) ≡ site (held 10 0x0B 2 0 0 sums0) f
+  at-error : after (freshSite p q f) (seven buffer ∷ []) ≡ site (held 10 0x0B 2 0 0 sums0) f
   unfolding sums0
-  at-error = onward _ _ _ _ _ (ap (λ (x : Site). next x (seven p q f buffer)) begins ∙ after-seven sums0) (ended _)
+  at-error = onward _ _ _ _ _ (ap (λ (x : Site). next x (seven buffer)) begins ∙ after-seven sums0) (ended _)
 
-  -- the examples
-  module _ (before : List Call) (c : Call) (answer state status : ℕ) (reply then : List ℕ) where
-    expected : (at : Site) (left : Leaves) → after (freshSite p q f buffer) before ≡ at → called at c ≡ left → Meets left (case p q f buffer before c answer state status reply then) → Expected (case p q f buffer before c answer state status reply then)
-    expected = shown (case p q f buffer before c answer state status reply then)
+  -- the examples, by their places in the list
+  abbrev nth : ℕ → Case
+  nth n = getD (deskCases p q f buffer) n (case p q f [] (close buffer) 0 0 0 [] [])
 
-  example-1 : Expected (case p q f buffer [] (getState p q f buffer) 0 2 0 (0x02 ∷ []) f)
+  example-1 : Expected (nth 0)
   unfolding fitOf streamLength appEnd dataAsked setupOf formOf allowedOf served getstateOf answered
   example-1 =
-      expected _ _ _ _ _ _ _ _ _ at-start (serves (held 2 0 2 0 0 sums0) f (getState p q f buffer) refl sized refl refl refl refl refl)
+      shown (nth 0) _ _ at-start
+      (serves (held 2 0 2 0 0 sums0) f (nth 0 .call) refl sized refl refl refl refl refl)
       (record { answer = refl; count = refl; state = refl; status = refl; reply = refl; flash = refl })
 
-  example-2 : Expected (case p q f buffer [] (query p q f buffer) 0 2 0 (0x4D ∷ 0x4C ∷ 0x01 ∷ 0x20 ∷ []) f)
+  example-2 : Expected (nth 1)
   unfolding fitOf streamLength appEnd dataAsked setupOf formOf allowedOf served queryOf answered
   example-2 =
-      expected _ _ _ _ _ _ _ _ _ at-start (serves (held 2 0 2 0 0 sums0) f (query p q f buffer) refl sized refl refl refl refl refl)
+      shown (nth 1) _ _ at-start
+      (serves (held 2 0 2 0 0 sums0) f (nth 1 .call) refl sized refl refl refl refl refl)
       (record { answer = refl; count = refl; state = refl; status = refl; reply = refl; flash = refl })
 
-  example-3-taken : Expected (case p q f buffer [] (eraseAll p q f buffer) 0 3 0 [] w)
+  example-3-taken : Expected (nth 2)
   unfolding fitOf streamLength appEnd dataAsked setupOf formOf allowedOf served dnloadOf commandOf wellFormed carriedOut eraseOf movedTo
   example-3-taken =
-      expected _ _ _ _ _ _ _ _ _ at-start (serves (held 2 0 2 0 0 sums0) f (eraseAll p q f buffer) refl sized refl refl refl refl refl)
+      shown (nth 2) _ _ at-start
+      (serves (held 2 0 2 0 0 sums0) f (nth 2 .call) refl sized refl refl refl refl refl)
       (record { answer = refl; count = refl; state = refl; status = refl; reply = refl; flash = refl })
 
-  example-3-faulted : Expected (case p q f buffer [] (dnload p q f buffer (0x04 ∷ 0x00 ∷ 0x10 ∷ 0x00 ∷ 0x31 ∷ 0x00 ∷ 0x00 ∷ 0x00 ∷ [])) 3 10 0x08 [] f)
+  example-3-faulted : Expected (nth 3)
   unfolding fitOf streamLength appEnd dataAsked setupOf formOf allowedOf served dnloadOf commandOf wellFormed carriedOut eraseOf faultOf movedTo
   example-3-faulted =
-      expected _ _ _ _ _ _ _ _ _ at-start (serves (held 2 0 2 0 0 sums0) f (dnload p q f buffer (0x04 ∷ 0x00 ∷ 0x10 ∷ 0x00 ∷ 0x31 ∷ 0x00 ∷ 0x00 ∷ 0x00 ∷ [])) refl sized refl refl refl refl refl)
+      shown (nth 3) _ _ at-start
+      (serves (held 2 0 2 0 0 sums0) f (nth 3 .call) refl sized refl refl refl refl refl)
       (record { answer = refl; count = refl; state = refl; status = refl; reply = refl; flash = refl })
 
-  example-4 : Expected (case p q f buffer [] (dnload p q f buffer (0x04 ∷ 0x00 ∷ 0x0F ∷ 0x00 ∷ 0x01 ∷ 0x00 ∷ 0x00 ∷ 0x00 ∷ [])) 3 10 0x08 [] f)
+  example-4 : Expected (nth 4)
   unfolding fitOf streamLength appEnd dataAsked setupOf formOf allowedOf served dnloadOf commandOf wellFormed carriedOut eraseOf faultOf movedTo
   example-4 =
-      expected _ _ _ _ _ _ _ _ _ at-start (serves (held 2 0 2 0 0 sums0) f (dnload p q f buffer (0x04 ∷ 0x00 ∷ 0x0F ∷ 0x00 ∷ 0x01 ∷ 0x00 ∷ 0x00 ∷ 0x00 ∷ [])) refl sized refl refl refl refl refl)
+      shown (nth 4) _ _ at-start
+      (serves (held 2 0 2 0 0 sums0) f (nth 4 .call) refl sized refl refl refl refl refl)
       (record { answer = refl; count = refl; state = refl; status = refl; reply = refl; flash = refl })
 
-  example-5-taken : Expected (case p q f buffer (eraseAll p q f buffer ∷ getStatus p q f buffer ∷ []) (dnload p q f buffer (0x01 ∷ 0x00 ∷ 0x3F ∷ 0x00 ∷ 0x00 ∷ 0x04 ∷ 0x00 ∷ 0x00 ∷ [])) 0 3 0 [] w)
+  example-5-taken : Expected (nth 5)
   unfolding fitOf streamLength appEnd dataAsked setupOf formOf allowedOf served dnloadOf commandOf wellFormed carriedOut progOf wroteOf movedTo
   example-5-taken =
-      expected _ _ _ _ _ _ _ _ (leaves (outcome Answer.Taken 0 (held 3 0 5 64512 1024 (sumsAfter (boardOf 16 64 p q) sums1 w (startOf 63) 0))) w buffer) at-erased (serves (held 2 0 2 0 0 sums1) w (dnload p q f buffer (0x01 ∷ 0x00 ∷ 0x3F ∷ 0x00 ∷ 0x00 ∷ 0x04 ∷ 0x00 ∷ 0x00 ∷ [])) refl w-long refl refl refl refl refl ∙ rw (w-erased 63 1024 (omega arith) (omega arith), spliced-none w (startOf 63)))
+      shown (nth 5) _ (leaves (outcome Answer.Taken 0 (held 3 0 5 64512 1024 (sumsAfter (boardOf 16 64 p q) sums1 w (startOf 63) 0))) w buffer) at-erased
+      (serves (held 2 0 2 0 0 sums1) w (nth 5 .call) refl w-long refl refl refl refl refl ∙ rw (w-erased 63 1024 (omega arith) (omega arith), spliced-none w (startOf 63)))
       (record { answer = refl; count = refl; state = refl; status = refl; reply = refl; flash = refl })
 
-  example-5-faulted : Expected (case p q f buffer (eraseAll p q f buffer ∷ getStatus p q f buffer ∷ []) (dnload p q f buffer (0x01 ∷ 0x00 ∷ 0x3F ∷ 0x00 ∷ 0x01 ∷ 0x04 ∷ 0x00 ∷ 0x00 ∷ [])) 3 10 0x08 [] w)
+  example-5-faulted : Expected (nth 6)
   unfolding fitOf streamLength appEnd dataAsked setupOf formOf allowedOf served dnloadOf commandOf wellFormed carriedOut progOf faultOf movedTo
   example-5-faulted =
-      expected _ _ _ _ _ _ _ _ _ at-erased (serves (held 2 0 2 0 0 sums1) w (dnload p q f buffer (0x01 ∷ 0x00 ∷ 0x3F ∷ 0x00 ∷ 0x01 ∷ 0x04 ∷ 0x00 ∷ 0x00 ∷ [])) refl w-long refl refl refl refl refl)
+      shown (nth 6) _ _ at-erased
+      (serves (held 2 0 2 0 0 sums1) w (nth 6 .call) refl w-long refl refl refl refl refl)
       (record { answer = refl; count = refl; state = refl; status = refl; reply = refl; flash = refl })
 
-  example-6-none : Expected (case p q f buffer [] (dnload p q f buffer (0x01 ∷ 0x00 ∷ 0x10 ∷ 0x00 ∷ 0x00 ∷ 0x00 ∷ 0x00 ∷ 0x00 ∷ [])) 3 10 0x08 [] f)
+  example-6-none : Expected (nth 7)
   unfolding fitOf streamLength appEnd dataAsked setupOf formOf allowedOf served dnloadOf commandOf wellFormed carriedOut progOf faultOf movedTo
   example-6-none =
-      expected _ _ _ _ _ _ _ _ _ at-start (serves (held 2 0 2 0 0 sums0) f (dnload p q f buffer (0x01 ∷ 0x00 ∷ 0x10 ∷ 0x00 ∷ 0x00 ∷ 0x00 ∷ 0x00 ∷ 0x00 ∷ [])) refl sized refl refl refl refl refl)
+      shown (nth 7) _ _ at-start
+      (serves (held 2 0 2 0 0 sums0) f (nth 7 .call) refl sized refl refl refl refl refl)
       (record { answer = refl; count = refl; state = refl; status = refl; reply = refl; flash = refl })
 
-  example-6-huge : Expected (case p q f buffer [] (dnload p q f buffer (0x01 ∷ 0x00 ∷ 0x10 ∷ 0x00 ∷ 0xFF ∷ 0xFF ∷ 0xFF ∷ 0xFF ∷ [])) 3 10 0x08 [] f)
+  example-6-huge : Expected (nth 8)
   unfolding fitOf streamLength appEnd dataAsked setupOf formOf allowedOf served dnloadOf commandOf wellFormed carriedOut progOf faultOf movedTo
   example-6-huge =
-      expected _ _ _ _ _ _ _ _ _ at-start (serves (held 2 0 2 0 0 sums0) f (dnload p q f buffer (0x01 ∷ 0x00 ∷ 0x10 ∷ 0x00 ∷ 0xFF ∷ 0xFF ∷ 0xFF ∷ 0xFF ∷ [])) refl sized refl refl refl refl refl)
+      shown (nth 8) _ _ at-start
+      (serves (held 2 0 2 0 0 sums0) f (nth 8 .call) refl sized refl refl refl refl refl)
       (record { answer = refl; count = refl; state = refl; status = refl; reply = refl; flash = refl })
 
-  example-7-faulted : Expected (case p q f buffer [] (seven p q f buffer) 3 10 0x0B [] f)
+  example-7-faulted : Expected (nth 9)
   unfolding fitOf streamLength appEnd dataAsked setupOf formOf allowedOf served dnloadOf commandOf wellFormed carriedOut faultOf movedTo
   example-7-faulted =
-      expected _ _ _ _ _ _ _ _ _ at-start (serves (held 2 0 2 0 0 sums0) f (seven p q f buffer) refl sized refl refl refl refl refl)
+      shown (nth 9) _ _ at-start
+      (serves (held 2 0 2 0 0 sums0) f (nth 9 .call) refl sized refl refl refl refl refl)
       (record { answer = refl; count = refl; state = refl; status = refl; reply = refl; flash = refl })
 
-  example-7-status : Expected (case p q f buffer (seven p q f buffer ∷ []) (getStatus p q f buffer) 0 10 0x0B (0x0B ∷ 0x00 ∷ 0x00 ∷ 0x00 ∷ 0x0A ∷ 0x00 ∷ []) f)
+  example-7-status : Expected (nth 10)
   unfolding fitOf streamLength appEnd dataAsked setupOf formOf allowedOf served getstatusOf answered polled entered pollTime
   example-7-status =
-      expected _ _ _ _ _ _ _ _ _ at-error (serves (held 10 0x0B 2 0 0 sums0) f (getStatus p q f buffer) refl sized refl refl refl refl refl)
+      shown (nth 10) _ _ at-error
+      (serves (held 10 0x0B 2 0 0 sums0) f (nth 10 .call) refl sized refl refl refl refl refl)
       (record { answer = refl; count = refl; state = refl; status = refl; reply = refl; flash = refl })
 
-  example-8 : Expected (case p q f buffer [] (close p q f buffer) 1 10 0x0F [] f)
+  example-8 : Expected (nth 11)
   unfolding fitOf streamLength appEnd dataAsked setupOf formOf allowedOf served stallOf movedTo
   example-8 =
-      expected _ _ _ _ _ _ _ _ _ at-start (stalls (held 2 0 2 0 0 sums0) f (close p q f buffer) refl sized refl refl refl refl refl)
+      shown (nth 11) _ _ at-start
+      (stalls (held 2 0 2 0 0 sums0) f (nth 11 .call) refl sized refl refl refl refl refl)
       (record { answer = refl; count = refl; state = refl; status = refl; reply = refl; flash = refl })
 
-  example-9 : Expected (case p q f buffer (eraseAll p q f buffer ∷ getStatus p q f buffer ∷ progOne p q f buffer ∷ getStatus p q f buffer ∷ []) (close p q f buffer) 3 10 0x09 [] w)
+  example-9 : Expected (nth 12)
   unfolding fitOf streamLength appEnd dataAsked setupOf formOf allowedOf served dnloadOf pieceOf closedOf faultOf movedTo
   example-9 =
-      expected _ _ _ _ _ _ _ _ _ at-one (serves (held 5 0 2 16384 1 (one-sums sums1)) w (close p q f buffer) refl w-long refl refl refl refl refl)
+      shown (nth 12) _ _ at-one
+      (serves (held 5 0 2 16384 1 (one-sums sums1)) w (nth 12 .call) refl w-long refl refl refl refl refl)
       (record { answer = refl; count = refl; state = refl; status = refl; reply = refl; flash = refl })
 
-  example-10 : Expected (case p q f buffer (eraseAll p q f buffer ∷ getStatus p q f buffer ∷ progZero p q f buffer ∷ getStatus p q f buffer ∷ close p q f buffer ∷ getStatus p q f buffer ∷ []) (dnload p q f buffer (0x01 ∷ 0x00 ∷ 0x10 ∷ 0x00 ∷ 0x00 ∷ 0x04 ∷ 0x00 ∷ 0x00 ∷ [])) 3 10 0x05 [] z)
+  example-10 : Expected (nth 13)
   unfolding fitOf streamLength appEnd dataAsked setupOf formOf allowedOf served dnloadOf commandOf wellFormed carriedOut progOf faultOf movedTo
   example-10 =
-      expected _ _ _ _ _ _ _ _ (leaves (outcome Answer.Faulted 0 (held 10 0x05 2 0 0 (zero-sums sums1))) z buffer) at-zero (serves (held 2 0 2 0 0 (zero-sums sums1)) z (dnload p q f buffer (0x01 ∷ 0x00 ∷ 0x10 ∷ 0x00 ∷ 0x00 ∷ 0x04 ∷ 0x00 ∷ 0x00 ∷ [])) refl z-long refl refl refl refl refl ∙ rw z-unerased)
+      shown (nth 13) _ (leaves (outcome Answer.Faulted 0 (held 10 0x05 2 0 0 (zero-sums sums1))) z buffer) at-zero
+      (serves (held 2 0 2 0 0 (zero-sums sums1)) z (nth 13 .call) refl z-long refl refl refl refl refl ∙ rw z-unerased)
       (record { answer = refl; count = refl; state = refl; status = refl; reply = refl; flash = refl })
 
-  example-11-cleared : Expected (case p q f buffer (seven p q f buffer ∷ []) (clrStatus p q f buffer) 0 2 0 [] f)
+  example-11-cleared : Expected (nth 14)
   unfolding fitOf streamLength appEnd dataAsked setupOf formOf allowedOf served movedTo
   example-11-cleared =
-      expected _ _ _ _ _ _ _ _ _ at-error (serves (held 10 0x0B 2 0 0 sums0) f (clrStatus p q f buffer) refl sized refl refl refl refl refl)
+      shown (nth 14) _ _ at-error
+      (serves (held 10 0x0B 2 0 0 sums0) f (nth 14 .call) refl sized refl refl refl refl refl)
       (record { answer = refl; count = refl; state = refl; status = refl; reply = refl; flash = refl })
 
-  example-11-stalled : Expected (case p q f buffer [] (clrStatus p q f buffer) 1 10 0x0F [] f)
+  example-11-stalled : Expected (nth 15)
   unfolding fitOf streamLength appEnd dataAsked setupOf formOf allowedOf served stallOf movedTo
   example-11-stalled =
-      expected _ _ _ _ _ _ _ _ _ at-start (stalls (held 2 0 2 0 0 sums0) f (clrStatus p q f buffer) refl sized refl refl refl refl refl)
+      shown (nth 15) _ _ at-start
+      (stalls (held 2 0 2 0 0 sums0) f (nth 15 .call) refl sized refl refl refl refl refl)
       (record { answer = refl; count = refl; state = refl; status = refl; reply = refl; flash = refl })
 
-pub Desk-holds : Desk
-Desk-holds p q f buffer sized room = (
-  example-1 p q f buffer sized room,
-  (
-    example-2 p q f buffer sized room,
+  desk : All Expected (deskCases p q f buffer)
+  desk = (
+    example-1,
     (
-      example-3-taken p q f buffer sized room,
+      example-2,
       (
-        example-3-faulted p q f buffer sized room,
+        example-3-taken,
         (
-          example-4 p q f buffer sized room,
+          example-3-faulted,
           (
-            example-5-taken p q f buffer sized room,
+            example-4,
             (
-              example-5-faulted p q f buffer sized room,
+              example-5-taken,
               (
-                example-6-none p q f buffer sized room,
+                example-5-faulted,
                 (
-                  example-6-huge p q f buffer sized room,
+                  example-6-none,
                   (
-                    example-7-faulted p q f buffer sized room,
+                    example-6-huge,
                     (
-                      example-7-status p q f buffer sized room,
+                      example-7-faulted,
                       (
-                        example-8 p q f buffer sized room,
+                        example-7-status,
                         (
-                          example-9 p q f buffer sized room,
+                          example-8,
                           (
-                            example-10 p q f buffer sized room,
+                            example-9,
                             (
-                              example-11-cleared p q f buffer sized room,
+                              example-10,
                               (
-                                example-11-stalled p q f buffer sized room,
-                                tt,
+                                example-11-cleared,
+                                (
+                                  example-11-stalled,
+                                  tt,
+                                ),
                               ),
                             ),
                           ),
@@ -330,8 +346,10 @@ Desk-holds p q f buffer sized room = (
         ),
       ),
     ),
-  ),
-)
+  )
+
+pub Desk-holds : Desk
+Desk-holds = desk
 
 -- a flash and a reply buffer as the examples ask for them
 pub Desk-met : (flash : List ℕ) × (buffer : List ℕ) × (length flash ≡ startOf 64) × (1024 ≤ length buffer)

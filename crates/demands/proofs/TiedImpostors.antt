@@ -28,13 +28,14 @@ use Rattle.moves.specs.Moves.{stallOf, movedTo}
 use Rattle.command.specs.Download.{sumsAfter, wroteOf}
 use Rattle.loader.specs.Step.{stepOf}
 use Rattle.demands.specs.Calls.{Call, Site, called}
-use Rattle.demands.specs.Two.{Asks, StartsAt, PieceAsked}
-use Rattle.demands.specs.Two.Form.{dnload, upload}
+use Rattle.demands.specs.Two.{Asks, StartsAt}
+use Rattle.demands.specs.Two.Form.{upload}
+use Rattle.demands.specs.TwoCommands.{EraseDone, BytesDone}
 use Rattle.demands.specs.Tied.{Step, Keeps, stallsAll, singleReply, doesNothing, allAtFirst, allAtClose, inventsCount, constantSums, Impostors}
 use Rattle.demands.proofs.Bytes.{blank-byte, spliced-byte}
-use Rattle.demands.proofs.TwoWorks.{EraseWorks-holds, ProgramWorks-holds, piece-leaves}
+use Rattle.demands.proofs.TwoWorks.{EraseWorks-holds, ProgramWorks-holds, written-leaves}
 use Rattle.demands.proofs.TwoRows.{Rows-hold}
-use Rattle.demands.proofs.TwoMet.{small, placed, lent, setups, brings, so, small-sound, getstate-met, query-met, EraseWorks-met, ProgramWorks-met-start}
+use Rattle.demands.proofs.TwoMet.{small, placed, lent, setups, brings, onOne, so, small-sound, getstate-met, query-met, EraseWorks-met, ProgramWorks-met-start, ProgramWorks-met-piece}
 
 -- what an impostor that keeps the promise leaves at a call
 at-call : (f : Step) → Keeps f → (at : Site) (c : Call) → f (at .session) (at .flash) (c .setup) (c .bytes) (c .reply) ≡ called at c
@@ -49,13 +50,21 @@ abbrev query-call : Call
 query-call = lent (setups 0xA1 0x42 0x23 4 0) []
 
 abbrev erase-call : Call
-erase-call = brings (4 ∷ 0 ∷ 1 ∷ 0 ∷ 1 ∷ 0 ∷ 0 ∷ 0 ∷ [])
+erase-call = brings (onOne 4 1 0)
 
 abbrev prog-call : Call
-prog-call = brings (1 ∷ 0 ∷ 1 ∷ 0 ∷ 2 ∷ 0 ∷ 0 ∷ 0 ∷ 7 ∷ [])
+prog-call = brings (onOne 1 2 0 ++ (7 ∷ []))
 
 abbrev upload-call : Call
 upload-call = lent (setups 0xA1 2 0 0xE8 3) []
+
+erase-done : EraseDone (small 2 0 0 0) erase-call 1 1
+erase-done = EraseWorks-holds (small 2 0 0 0) erase-call 1 1 (EraseWorks-met .0) (EraseWorks-met .1) (EraseWorks-met .2)
+
+prog-done : BytesDone (small 2 0 0 0) prog-call 1024 2 (7 ∷ [])
+prog-done =
+    let m = ProgramWorks-met-start in
+    ProgramWorks-holds .starts (small 2 0 0 0) prog-call 1 2 9 (m .0) (omega arith) (m .1) (m .2) (omega arith) (m .3)
 
 stalls-not : Keeps stallsAll → ⊥
 unfolding stallOf
@@ -77,7 +86,7 @@ module _ (bytes : List ℕ) (k : Keeps (singleReply bytes)) where
 nothing-not : Keeps doesNothing → ⊥
 nothing-not k =
     let e = ap (λ (l : Leaves). l .outcome .session .phase .state .0) (at-call doesNothing k (small 2 0 0 0) erase-call) in
-    omega (arith, e ∙ EraseWorks-holds (small 2 0 0 0) erase-call 1 1 EraseWorks-met .enters .state)
+    omega (arith, e ∙ erase-done .enters .state)
 
 -- PROG of two bytes that brings the first of them: the byte is there, and the second place is as before
 module _ (image : List ℕ) (more : 2 ≤ length image) (few : length image ≤ 1024) (other : getD image 1 0 ≡ 0xFF → ⊥) (k : Keeps (allAtFirst image)) where
@@ -87,7 +96,7 @@ module _ (image : List ℕ) (more : 2 ≤ length image) (few : length image ≤ 
   first-stored : spliced first-flash 1024 image ≡ first-flash
   unfolding allAtFirst first-flash called
   first-stored =
-      let leads = ProgramWorks-holds .starts (small 2 0 0 0) prog-call 1 2 (7 ∷ []) ProgramWorks-met-start .enters .leads in
+      let leads = prog-done .enters .leads in
       sym
       (ap (λ (n : ℕ). cond (eqb n 5) (spliced first-flash 1024 image) first-flash) leads)
       ∙ ap (λ (l : Leaves). l .flash) (at-call (allAtFirst image) k (small 2 0 0 0) prog-call)
@@ -95,7 +104,7 @@ module _ (image : List ℕ) (more : 2 ≤ length image) (few : length image ≤ 
   first-not : ⊥
   unfolding first-flash
   first-not =
-      let w = ProgramWorks-holds .starts (small 2 0 0 0) prog-call 1 2 (7 ∷ []) ProgramWorks-met-start .flash in
+      let w = prog-done .flash in
       let long : length first-flash ≡ 2048 = w .as-long ∙ length-blank 2048 in
       let kept : getD first-flash 1025 0 ≡ 255 = w .outside 1025 (inr (omega arith)) ∙ blank-byte 2048 1025 (omega arith) in
       let stored : getD (spliced first-flash 1024 image) 1025 0 ≡ getD image 1 0 = spliced-byte first-flash 1024 image (omega arith) 1 more in
@@ -106,7 +115,7 @@ module _ (held : List ℕ) (k : Keeps (allAtClose held)) where
   unfolding allAtClose called
   close-kept =
       let l = called (small 2 0 0 0) prog-call in
-      let leads = ProgramWorks-holds .starts (small 2 0 0 0) prog-call 1 2 (7 ∷ []) ProgramWorks-met-start .enters .leads in
+      let leads = prog-done .enters .leads in
       sym
       (ap
       (λ (n : ℕ).
@@ -117,7 +126,7 @@ module _ (held : List ℕ) (k : Keeps (allAtClose held)) where
 
   close-not : ⊥
   close-not =
-      let w = ProgramWorks-holds .starts (small 2 0 0 0) prog-call 1 2 (7 ∷ []) ProgramWorks-met-start .flash in
+      let w = prog-done .flash in
       let there : getD (called (small 2 0 0 0) prog-call .flash) 1024 0 ≡ 7 = w .inside 0 (omega arith) in
       let blanked = ap (λ (l : List ℕ). getD l 1024 0) close-kept in
       omega (arith, sym (blank-byte 2048 1024 (omega arith)) ∙ blanked ∙ there)
@@ -127,7 +136,7 @@ upload-asks : (state place : ℕ) → fitOf (placed state 0 0 0 place .session) 
 unfolding dataAsked setupOf
 upload-asks state place fit =
     record {
-      sound = small-sound (placed state 0 0 0 place .session) _ _ refl refl refl fit;
+      sound = small-sound (placed state 0 0 0 place .session) (blank 2048) _ _ refl (length-blank 2048) refl refl fit;
       form = upload (so _ _ _ _ _) (omega arith) (omega arith);
     }
 
@@ -173,24 +182,12 @@ last-sum x =
     ap (crcFrom start) (take-add 1023 1 (drop 1024 g) ∙ ap₂ _++_ front back)
     ∙ crc-append start (take 1023 (drop 1024 f)) (x ∷ [])
 
-last-asked : (x : ℕ) → PieceAsked (small 5 0 2047 1) (last-call x)
-unfolding fitOf streamLength appEnd dataAsked setupOf
-last-asked x =
-    record {
-      asks =
-          record {
-            sound = small-sound (small 5 0 2047 1 .session) _ _ refl refl refl refl;
-            form = dnload (so _ _ _ _ _) (omega arith);
-          };
-      loading = refl;
-      some = omega arith;
-      few = omega arith;
-    }
-
 -- what is kept after the last byte
 last-kept : (x : ℕ) → called (small 5 0 2047 1) (last-call x) .outcome .session .sums .whole ≡ wholeSum (last-flash x) 1 2
-unfolding wroteOf movedTo sumsAfter refreshed appEnd last-flash
-last-kept x = ap (λ (l : Leaves). l .outcome .session .sums .whole) (piece-leaves (small 5 0 2047 1) (last-call x) (last-asked x))
+unfolding fitOf streamLength wroteOf movedTo sumsAfter refreshed appEnd last-flash
+last-kept x =
+    ap (λ (l : Leaves). l .outcome .session .sums .whole)
+    (written-leaves (small 5 0 2047 1) (last-call x) 1 (ProgramWorks-met-piece x 2047 refl) refl (omega arith) (omega arith))
 
 module _ (sums : Sums) (k : Keeps (constantSums sums)) where
   constant : (x : ℕ) → sums .whole ≡ byteStep (crcOf (range (blank 2048) 1024 1023)) x

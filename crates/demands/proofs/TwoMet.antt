@@ -1,22 +1,24 @@
 -- What demand 2 asks for can be had: inputs that meet each of its premises, with A = 1 and B = 2. Assumes nothing.
-use Prim.Native.Nat.{ℕ, _+_, _*_}
+use Prim.Native.Nat.{ℕ, _+_, _*_, _≤_}
 use mathlib.Core.Bool.{true}
-use mathlib.Core.List.{List, [], _∷_}
-use mathlib.Core.Logic.{_⊎_, inl, inr}
-use mathlib.Core.Path.{_≡_, refl}
+use mathlib.Core.List.{List, [], _∷_, _++_}
+use mathlib.Core.Logic.{inl, inr}
+use mathlib.Core.Path.{_≡_, refl, sym, _∙_}
 use native.Mathlib.Omega.{arith}
-use lib.ListN.{length}
-use Rattle.flash.specs.Flash.{startOf, blank}
-use Rattle.flash.proofs.Laws.{length-blank}
+use lib.ListN.{length, getD}
+use Rattle.flash.specs.Flash.{startOf, spliced, blank}
+use Rattle.flash.proofs.Laws.{length-blank, spliced-length}
 use Rattle.session.specs.Session.{boardOf, phaseOf, downOf, upOf, appEnd, streamLength, zerosOf}
 use Rattle.session.specs.Rules.{fitOf}
 use Rattle.session.specs.declared.Session.{Session}
 use Rattle.request.specs.Request.{setupOf, dataAsked}
 use Rattle.request.specs.declared.Request.{Request}
 use Rattle.demands.specs.Calls.{Call, Site}
-use Rattle.demands.specs.Two.{Sound, Asks, Refused, StartsAt, Says, Form, EraseAsked, ProgAsked, PieceAsked}
+use Rattle.demands.specs.Two.{Sound, Asks, Refused, StartsAt, Says, Form}
 use Rattle.demands.specs.Two.Form.{dnload, upload, getstatus, clrstatus, getstate, abort, query}
-use Rattle.demands.proofs.Bytes.{blank-byte}
+use Rattle.demands.specs.TwoCommands.{Commanded, Named, Counted, Legal, Blank, NotBlank, NoCommand}
+use Rattle.demands.specs.TwoCommands.NoCommand.{short, unknown, extra}
+use Rattle.demands.proofs.Bytes.{blank-byte, spliced-byte}
 
 -- a session of two blocks in a state, with a download and a place in the stream, over an erased flash
 abbrev pub placed : ℕ → ℕ → ℕ → ℕ → ℕ → Site
@@ -51,76 +53,150 @@ so type number value low high = record { typed = refl; numbered = refl; no-index
 abbrev pub brings : List ℕ → Call
 brings bytes = lent (setups 0x21 1 0 (length bytes) 0) bytes
 
--- such a call is sound, if its own numbers are
+-- such a call is sound over any flash of two blocks, if its own numbers are
 pub small-sound :
-    (s : Session) (setup bytes : List ℕ) → s .board .b .0 ≡ 2 → length setup ≡ 8 → length bytes ≡ dataAsked setup → fitOf s ≡ true
-    → Sound (record { session = s; flash = blank 2048 }) (lent setup bytes)
-small-sound s setup bytes b eight brought fit =
+    (s : Session) (flash setup bytes : List ℕ) → s .board .b .0 ≡ 2 → length flash ≡ 2048 → length setup ≡ 8
+    → length bytes ≡ dataAsked setup → fitOf s ≡ true → Sound (record { session = s; flash = flash }) (lent setup bytes)
+small-sound s flash setup bytes b sized eight brought fit =
     record {
       eight = eight;
       roomy = rw (length-blank 1024) (omega arith);
-      sized = rw b (length-blank 2048);
+      sized = rw b sized;
       brought = brought;
       fit = fit;
     }
 
-pub EraseWorks-met : EraseAsked (small 2 0 0 0) (brings (4 ∷ 0 ∷ 1 ∷ 0 ∷ 1 ∷ 0 ∷ 0 ∷ 0 ∷ [])) 1 1
-unfolding fitOf streamLength appEnd dataAsked setupOf
-EraseWorks-met =
-    record {
-      asks =
-          record {
-            sound = small-sound (small 2 0 0 0 .session) _ _ refl refl refl refl;
-            form = dnload (so _ _ _ _ _) (omega arith);
-          };
-      idle = refl;
-      command = refl;
-      block-is = refl;
-      count-is = refl;
-      some = omega arith;
-      from = omega arith;
-      to = omega arith;
-    }
+module _ (state status place left : ℕ) (fit : fitOf (small state status place left .session) ≡ true) where
+  met :
+      (r : Request) (n : ℕ) (setup bytes : List ℕ) → length setup ≡ 8 → length bytes ≡ dataAsked setup → Form setup n r
+      → Asks (small state status place left) (lent setup bytes) r n
+  met r n setup bytes eight brought form =
+      record {
+        sound = small-sound (small state status place left .session) (blank 2048) setup bytes refl (length-blank 2048) eight brought fit;
+        form = form;
+      }
+
+-- a command of a few bytes in state 2, over any flash
+module _ (flash bytes : List ℕ) (code : ℕ) (sized : length flash ≡ 2048) where
+  commanded-over :
+      length bytes ≤ 1024 → 1 ≤ length bytes → getD bytes 0 0 ≡ code
+      → Commanded (record { session = small 2 0 0 0 .session; flash = flash }) (brings bytes) code (length bytes)
+  unfolding fitOf streamLength appEnd dataAsked setupOf
+  commanded-over few some e =
+      let long : length bytes + 0 * 256 ≡ length bytes = omega arith in
+      record {
+        asks =
+            record {
+              sound = small-sound (small 2 0 0 0 .session) flash (setups 0x21 1 0 (length bytes) 0) bytes refl sized refl (sym long) refl;
+              form = dnload (rw long at (so 0x21 1 0 (length bytes) 0)) few;
+            };
+        some = some;
+        idle = refl;
+        command = e;
+      }
+
+commanded : (bytes : List ℕ) (code : ℕ) → length bytes ≤ 1024 → 1 ≤ length bytes → getD bytes 0 0 ≡ code → Commanded (small 2 0 0 0) (brings bytes) code (length bytes)
+commanded bytes code = commanded-over (blank 2048) bytes code (length-blank 2048)
+
+-- the eight bytes of a command on block 1 with a 16-bit length or count
+abbrev pub onOne : ℕ → ℕ → ℕ → List ℕ
+onOne code low high = code ∷ 0 ∷ 1 ∷ 0 ∷ low ∷ high ∷ 0 ∷ 0 ∷ []
+
+pub EraseWorks-met : Commanded (small 2 0 0 0) (brings (onOne 4 1 0)) 4 8 × Counted (brings (onOne 4 1 0)) 1 1 × Legal (small 2 0 0 0) 1 (startOf 1)
+EraseWorks-met = (
+  commanded (onOne 4 1 0) 4 (omega arith) (omega arith) refl,
+  record { block-is = refl; count-is = refl },
+  record { some = omega arith; from = omega arith; to = omega arith },
+)
 
 -- two bytes, of which the first comes with the command
-pub ProgramWorks-met-start : ProgAsked (small 2 0 0 0) (brings (1 ∷ 0 ∷ 1 ∷ 0 ∷ 2 ∷ 0 ∷ 0 ∷ 0 ∷ 7 ∷ [])) 1 2 (7 ∷ [])
-unfolding fitOf streamLength appEnd dataAsked setupOf
-ProgramWorks-met-start =
-    record {
-      asks =
-          record {
-            sound = small-sound (small 2 0 0 0 .session) _ _ refl refl refl refl;
-            form = dnload (so _ _ _ _ _) (omega arith);
-          };
-      idle = refl;
-      command = refl;
-      block-is = refl;
-      len-is = refl;
-      first-is = refl;
-      some = omega arith;
-      from = omega arith;
-      to = omega arith;
-      few = omega arith;
-      erased = λ i lt. blank-byte 2048 (1024 + i) (omega arith);
-    }
+pub ProgramWorks-met-start :
+    Commanded (small 2 0 0 0) (brings (onOne 1 2 0 ++ (7 ∷ []))) 1 9 × Named (brings (onOne 1 2 0 ++ (7 ∷ []))) 1 2
+    × Legal (small 2 0 0 0) 1 2 × Blank (small 2 0 0 0) 1 2
+ProgramWorks-met-start = (
+  commanded (onOne 1 2 0 ++ (7 ∷ [])) 1 (omega arith) (omega arith) refl,
+  record { block-is = refl; len-is = refl },
+  record { some = omega arith; from = omega arith; to = omega arith },
+  λ i lt. blank-byte 2048 (1024 + i) (omega arith),
+)
 
-pub ProgramWorks-met-piece : PieceAsked (small 5 0 1024 1) (brings (7 ∷ []))
-unfolding fitOf streamLength appEnd dataAsked setupOf
-ProgramWorks-met-piece =
-    record {
-      asks =
-          record {
-            sound = small-sound (small 5 0 1024 1 .session) _ _ refl refl refl refl;
-            form = dnload (so _ _ _ _ _) (omega arith);
-          };
-      loading = refl;
-      some = omega arith;
-      few = omega arith;
-    }
+pub ProgramWorks-met-piece : (x : ℕ) (place : ℕ) → fitOf (small 5 0 place 1 .session) ≡ true → Asks (small 5 0 place 1) (brings (x ∷ [])) Request.Dnload 1
+unfolding dataAsked setupOf
+ProgramWorks-met-piece x place fit = met 5 0 place 1 fit Request.Dnload 1 _ _ refl refl (dnload (so _ _ _ _ _) (omega arith))
 
-module _ (state status place left : ℕ) (fit : fitOf (small state status place left .session) ≡ true) where
-  met : (r : Request) (n : ℕ) (setup bytes : List ℕ) → length setup ≡ 8 → length bytes ≡ dataAsked setup → Form setup n r → Asks (small state status place left) (lent setup bytes) r n
-  met r n setup bytes eight brought form = record { sound = small-sound (small state status place left .session) setup bytes refl eight brought fit; form = form }
+-- the commands that change no flash, on one byte at block 1
+pub read-met : Commanded (small 2 0 0 0) (brings (onOne 2 1 0)) 2 8 × Named (brings (onOne 2 1 0)) 1 1 × Legal (small 2 0 0 0) 1 1
+read-met = (
+  commanded (onOne 2 1 0) 2 (omega arith) (omega arith) refl,
+  record { block-is = refl; len-is = refl },
+  record { some = omega arith; from = omega arith; to = omega arith },
+)
+
+pub check-met :
+    Commanded (small 2 0 0 0) (brings (onOne 3 1 0)) 3 8 × Named (brings (onOne 3 1 0)) 1 1 × Legal (small 2 0 0 0) 1 1
+    × Blank (small 2 0 0 0) 1 1
+check-met = (
+  commanded (onOne 3 1 0) 3 (omega arith) (omega arith) refl,
+  record { block-is = refl; len-is = refl },
+  record { some = omega arith; from = omega arith; to = omega arith },
+  λ i lt. blank-byte 2048 (1024 + i) (omega arith),
+)
+
+pub info-met : Commanded (small 2 0 0 0) (brings (onOne 5 0 0)) 5 8
+info-met = commanded (onOne 5 0 0) 5 (omega arith) (omega arith) refl
+
+pub bin-on-met : Commanded (small 2 0 0 0) (brings (onOne 6 0 0)) 6 8
+bin-on-met = commanded (onOne 6 0 0) 6 (omega arith) (omega arith) refl
+
+pub bin-off-met : Commanded (small 2 0 0 0) (brings (6 ∷ 1 ∷ 0 ∷ 0 ∷ 0 ∷ 0 ∷ 0 ∷ 0 ∷ [])) 6 8
+bin-off-met = commanded (6 ∷ 1 ∷ 0 ∷ 0 ∷ 0 ∷ 0 ∷ 0 ∷ 0 ∷ []) 6 (omega arith) (omega arith) refl
+
+pub reset-met : Commanded (small 2 0 0 0) (brings (onOne 7 0 0)) 7 8
+reset-met = commanded (onOne 7 0 0) 7 (omega arith) (omega arith) refl
+
+-- no command: one byte, the unknown command 8, and a byte behind READ
+pub no-command-met :
+    (Commanded (small 2 0 0 0) (brings (4 ∷ [])) 4 1 × NoCommand 4 1)
+    × (Commanded (small 2 0 0 0) (brings (onOne 8 0 0)) 8 8 × NoCommand 8 8)
+    × (Commanded (small 2 0 0 0) (brings (onOne 2 1 0 ++ (0 ∷ []))) 2 9 × NoCommand 2 9)
+no-command-met = (
+  (commanded (4 ∷ []) 4 (omega arith) (omega arith) refl, short (omega arith)),
+  (commanded (onOne 8 0 0) 8 (omega arith) (omega arith) refl, unknown (inr (omega arith))),
+  (commanded (onOne 2 1 0 ++ (0 ∷ [])) 2 (omega arith) (omega arith) refl, extra (omega arith) (λ e. omega (arith, e))),
+)
+
+-- an empty range is illegal, for whichever command
+pub range-met :
+    (code : ℕ)
+    → Commanded (small 2 0 0 0) (brings (onOne code 0 0)) code 8 × Named (brings (onOne code 0 0)) 1 0 × Counted (brings (onOne code 0 0)) 1 0
+    × (Legal (small 2 0 0 0) 1 0 → ⊥)
+range-met code = (
+  commanded (onOne code 0 0) code (omega arith) (omega arith) refl,
+  record { block-is = refl; len-is = refl },
+  record { block-is = refl; count-is = refl },
+  λ l. omega (arith, l .some),
+)
+
+-- two bytes for a length of one, and for a download of which one byte remains
+pub prog-data-met : Commanded (small 2 0 0 0) (brings (onOne 1 1 0 ++ (7 ∷ 7 ∷ []))) 1 10 × Named (brings (onOne 1 1 0 ++ (7 ∷ 7 ∷ []))) 1 1
+prog-data-met = (commanded (onOne 1 1 0 ++ (7 ∷ 7 ∷ [])) 1 (omega arith) (omega arith) refl, record { block-is = refl; len-is = refl })
+
+pub piece-data-met : Asks (small 5 0 1024 1) (brings (7 ∷ 7 ∷ [])) Request.Dnload 2
+unfolding fitOf streamLength appEnd dataAsked setupOf
+piece-data-met = met 5 0 1024 1 refl Request.Dnload 2 _ _ refl refl (dnload (so _ _ _ _ _) (omega arith))
+
+-- a flash with a zero byte at block 1, for PROG and CHECK
+abbrev pub marred : Site
+marred = record { session = small 2 0 0 0 .session; flash = spliced (blank 2048) 1024 (0 ∷ []) }
+
+pub unerased-met : (code : ℕ) → Commanded marred (brings (onOne code 1 0)) code 8 × Legal marred 1 1 × NotBlank marred 1 1
+unerased-met code =
+    let fits : 1024 + 1 ≤ length (blank 2048) = rw (length-blank 2048) (omega arith) in
+    let zero-byte : getD (spliced (blank 2048) 1024 (0 ∷ [])) (1024 + 0) 0 ≡ 0 = spliced-byte (blank 2048) 1024 (0 ∷ []) fits 0 (omega arith) in (
+      commanded-over (spliced (blank 2048) 1024 (0 ∷ [])) (onOne code 1 0) code (spliced-length (blank 2048) 1024 (0 ∷ []) fits ∙ length-blank 2048) (omega arith) (omega arith) refl,
+      record { some = omega arith; from = omega arith; to = omega arith },
+      (0, omega arith, λ e. omega (arith, zero-byte, e)),
+    )
 
 pub close-met : Asks (small 5 0 1024 0) (lent (setups 0x21 1 0 0 0) []) Request.Dnload 0
 unfolding fitOf streamLength appEnd dataAsked setupOf
@@ -188,8 +264,8 @@ pub stalled-met :
     × Sound (small 10 0x0F 0 0) (lent (setups 0 0 0 0 0) []) × Refused (small 10 0x0F 0 0) (lent (setups 0 0 0 0 0) [])
 unfolding fitOf streamLength appEnd dataAsked setupOf
 stalled-met = (
-  small-sound (small 2 0 0 0 .session) (setups 0 0 0 0 0) [] refl refl refl refl,
+  small-sound (small 2 0 0 0 .session) (blank 2048) (setups 0 0 0 0 0) [] refl (length-blank 2048) refl refl refl,
   λ r n form a. no-form r n form,
-  small-sound (small 10 0x0F 0 0 .session) (setups 0 0 0 0 0) [] refl refl refl refl,
+  small-sound (small 10 0x0F 0 0 .session) (blank 2048) (setups 0 0 0 0 0) [] refl (length-blank 2048) refl refl refl,
   λ r n form a. no-form r n form,
 )

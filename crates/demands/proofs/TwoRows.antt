@@ -25,48 +25,14 @@ use Rattle.loader.specs.Step.{served, withReply, withFlash}
 use Rattle.demands.specs.Calls.{Call, Site, called}
 use Rattle.demands.specs.Two.{Sound, Asks, Refused, Answers, Enters, Unchanged, Moves, Reports, StartsAt, nextBytes, Uploads, Rows}
 use Rattle.demands.proofs.TwoForms.{asks-served, asks-stalled, asks-brings}
-use Rattle.demands.proofs.TwoWorks.{so-answers, so-session, so-flash, so-enters, dnload-piece}
-
-module _ (at : Site) (c : Call) (a : Answer) (bytes : List ℕ) where
-  -- a call that hands the session back as it was
-  pub so-unchanged :
-      called at c ≡ leaves (outcome a (length bytes) (at .session)) (at .flash) (bytes ++ drop (length bytes) (c .reply))
-      → Unchanged at c (answerNumber a) bytes
-  so-unchanged e =
-      record {
-        answers = so-answers at c a bytes (at .session) (at .flash) e;
-        session = so-session at c a bytes (at .session) (at .flash) e;
-        flash = so-flash at c a bytes (at .session) (at .flash) e;
-      }
-
-  -- a call that moves it
-  pub so-moves :
-      (n status : ℕ)
-      → called at c
-      ≡ leaves (outcome a (length bytes) (movedTo (at .session) (phaseOf n status 2) noDownload)) (at .flash)
-      (bytes ++ drop (length bytes) (c .reply))
-      → Moves at c (answerNumber a) bytes n status
-  unfolding movedTo
-  so-moves n status e =
-      let t = movedTo (at .session) (phaseOf n status 2) noDownload in
-      let session = so-session at c a bytes t (at .flash) e in
-      record {
-        answers = so-answers at c a bytes t (at .flash) e;
-        enters = so-enters at c a bytes t (at .flash) e refl;
-        no-download = ap (λ (x : Session). x .down) session;
-        upload = ap (λ (x : Session). x .up) session;
-        sums = ap (λ (x : Session). x .sums) session;
-        flash = so-flash at c a bytes t (at .flash) e;
-      }
+use Rattle.demands.proofs.TwoOutcomes.{so-answers, so-session, so-flash, so-enters, so-unchanged, so-moves}
+use Rattle.demands.proofs.TwoDownloads.{piece-leaves}
 
 -- DNLOAD of no bytes
 module _ (at : Site) (c : Call) (k : Asks at c Request.Dnload 0) (loading : at .session .phase .state .0 ≡ 5) where
   closes : called at c ≡ leaves (closedOf (at .session)) (at .flash) (c .reply)
-  unfolding served pieceOf
-  closes =
-      asks-served at c Request.Dnload 0 k (inr loading)
-      ∙ ap (λ (d : Done). withReply d (c .reply))
-      (dnload-piece (at .session) (at .flash) (c .bytes) loading ∙ rw (asks-brings at c 0 k))
+  unfolding pieceOf
+  closes = piece-leaves at c 0 k loading ∙ rw (asks-brings at c 0 k)
 
   close-done : at .session .down .left ≡ 0 → Moves at c 0 [] 6 0
   unfolding closedOf

@@ -3,5 +3,6 @@ pub mod Calls
 pub mod One
 pub mod Three
 pub mod Two
+pub mod TwoCommands
 pub mod Tied
 pub mod ReadBack

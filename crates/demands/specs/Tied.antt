@@ -45,18 +45,16 @@ abbrev pub All : (Case → Type 0) → List Case → Type 0
 All P [] = Unit
 All P (c ∷ cs) = P c × All P cs
 
--- the examples stand at a fresh start with A = 16 and B = 64, over any flash of 64 blocks, and are lent any reply buffer
-module _ (part0 part1 : ℕ) (flash buffer : List ℕ) where
-  abbrev pub freshSite : Site
-  freshSite = record { session = startOutcome flash 16 64 part0 part1 .session; flash = flash }
-
+-- the calls of the examples, each with the reply buffer that it is lent
+module _ (buffer : List ℕ) where
   -- a request that brings no data
   abbrev pub request : List ℕ → Call
   request setup = record { setup = setup; bytes = []; reply = buffer }
 
   -- a DNLOAD of a few bytes
   abbrev pub dnload : List ℕ → Call
-  dnload bytes = record { setup = 0x21 ∷ 0x01 ∷ 0 ∷ 0 ∷ 0 ∷ 0 ∷ length bytes ∷ 0 ∷ []; bytes = bytes; reply = buffer }
+  dnload bytes =
+      record { setup = 0x21 ∷ 0x01 ∷ 0 ∷ 0 ∷ 0 ∷ 0 ∷ length bytes ∷ 0 ∷ []; bytes = bytes; reply = buffer }
 
   abbrev pub getStatus : Call
   getStatus = request (0xA1 ∷ 0x03 ∷ 0 ∷ 0 ∷ 0 ∷ 0 ∷ 6 ∷ 0 ∷ [])
@@ -70,12 +68,9 @@ module _ (part0 part1 : ℕ) (flash buffer : List ℕ) where
   abbrev pub query : Call
   query = request (0xA1 ∷ 0x42 ∷ 0x23 ∷ 0x00 ∷ 0x00 ∷ 0x00 ∷ 0x04 ∷ 0x00 ∷ [])
 
-  -- ERASE of all 48 blocks of the application, and the flash after it
+  -- ERASE of all 48 blocks of the application
   abbrev pub eraseAll : Call
   eraseAll = dnload (0x04 ∷ 0x00 ∷ 0x10 ∷ 0x00 ∷ 0x30 ∷ 0x00 ∷ 0x00 ∷ 0x00 ∷ [])
-
-  abbrev pub wiped : List ℕ
-  wiped = erased flash 16 48
 
   -- PROG of one byte at block 16, with no data yet, and with a zero byte
   abbrev pub progOne : Call
@@ -90,6 +85,18 @@ module _ (part0 part1 : ℕ) (flash buffer : List ℕ) where
 
   abbrev pub close : Call
   close = dnload []
+
+-- the flash with the application erased, and then with a zero byte at its start
+abbrev pub wiped : List ℕ → List ℕ
+wiped flash = erased flash 16 48
+
+abbrev pub marred : List ℕ → List ℕ
+marred flash = spliced (wiped flash) (startOf 16) (0x00 ∷ [])
+
+-- the examples stand at a fresh start with A = 16 and B = 64
+module _ (part0 part1 : ℕ) (flash : List ℕ) where
+  abbrev pub freshSite : Site
+  freshSite = record { session = startOutcome flash 16 64 part0 part1 .session; flash = flash }
 
   -- an example with its parts in a row
   abbrev pub case : List Call → Call → ℕ → ℕ → ℕ → List ℕ → List ℕ → Case
@@ -106,44 +113,41 @@ module _ (part0 part1 : ℕ) (flash buffer : List ℕ) where
       }
 
   -- the starred examples, 1 to 11: calls before, call; answer, state, status, reply, flash
-  abbrev pub deskCases : List Case
-  deskCases =
+  abbrev pub deskCases : List ℕ → List Case
+  deskCases b =
       -- 1
-      case [] getState 0 2 0 (0x02 ∷ []) flash
+      case [] (getState b) 0 2 0 (0x02 ∷ []) flash
       -- 2
-      ∷ case [] query 0 2 0 (0x4D ∷ 0x4C ∷ 0x01 ∷ 0x20 ∷ []) flash
+      ∷ case [] (query b) 0 2 0 (0x4D ∷ 0x4C ∷ 0x01 ∷ 0x20 ∷ []) flash
       -- 3: 48 blocks, and 49
-      ∷ case [] eraseAll 0 3 0 [] wiped
-      ∷ case [] (dnload (0x04 ∷ 0x00 ∷ 0x10 ∷ 0x00 ∷ 0x31 ∷ 0x00 ∷ 0x00 ∷ 0x00 ∷ [])) 3 10 0x08 [] flash
+      ∷ case [] (eraseAll b) 0 3 0 [] (wiped flash)
+      ∷ case [] (dnload b (0x04 ∷ 0x00 ∷ 0x10 ∷ 0x00 ∷ 0x31 ∷ 0x00 ∷ 0x00 ∷ 0x00 ∷ [])) 3 10 0x08 [] flash
       -- 4: block 15
-      ∷ case [] (dnload (0x04 ∷ 0x00 ∷ 0x0F ∷ 0x00 ∷ 0x01 ∷ 0x00 ∷ 0x00 ∷ 0x00 ∷ [])) 3 10 0x08 [] flash
+      ∷ case [] (dnload b (0x04 ∷ 0x00 ∷ 0x0F ∷ 0x00 ∷ 0x01 ∷ 0x00 ∷ 0x00 ∷ 0x00 ∷ [])) 3 10 0x08 [] flash
       -- 5: block 63, length 1,024 and 1,025
-      ∷ case (eraseAll ∷ getStatus ∷ []) (dnload (0x01 ∷ 0x00 ∷ 0x3F ∷ 0x00 ∷ 0x00 ∷ 0x04 ∷ 0x00 ∷ 0x00 ∷ [])) 0 3 0 [] wiped
-      ∷ case (eraseAll ∷ getStatus ∷ []) (dnload (0x01 ∷ 0x00 ∷ 0x3F ∷ 0x00 ∷ 0x01 ∷ 0x04 ∷ 0x00 ∷ 0x00 ∷ [])) 3 10 0x08 [] wiped
+      ∷ case (eraseAll b ∷ getStatus b ∷ [])
+      (dnload b (0x01 ∷ 0x00 ∷ 0x3F ∷ 0x00 ∷ 0x00 ∷ 0x04 ∷ 0x00 ∷ 0x00 ∷ [])) 0 3 0 [] (wiped flash)
+      ∷ case (eraseAll b ∷ getStatus b ∷ [])
+      (dnload b (0x01 ∷ 0x00 ∷ 0x3F ∷ 0x00 ∷ 0x01 ∷ 0x04 ∷ 0x00 ∷ 0x00 ∷ [])) 3 10 0x08 [] (wiped flash)
       -- 6: length 0 and 4,294,967,295
-      ∷ case [] (dnload (0x01 ∷ 0x00 ∷ 0x10 ∷ 0x00 ∷ 0x00 ∷ 0x00 ∷ 0x00 ∷ 0x00 ∷ [])) 3 10 0x08 [] flash
-      ∷ case [] (dnload (0x01 ∷ 0x00 ∷ 0x10 ∷ 0x00 ∷ 0xFF ∷ 0xFF ∷ 0xFF ∷ 0xFF ∷ [])) 3 10 0x08 [] flash
+      ∷ case [] (dnload b (0x01 ∷ 0x00 ∷ 0x10 ∷ 0x00 ∷ 0x00 ∷ 0x00 ∷ 0x00 ∷ 0x00 ∷ [])) 3 10 0x08 [] flash
+      ∷ case [] (dnload b (0x01 ∷ 0x00 ∷ 0x10 ∷ 0x00 ∷ 0xFF ∷ 0xFF ∷ 0xFF ∷ 0xFF ∷ [])) 3 10 0x08 [] flash
       -- 7: 7 bytes, and the status then
-      ∷ case [] seven 3 10 0x0B [] flash
-      ∷ case (seven ∷ []) getStatus 0 10 0x0B (0x0B ∷ 0x00 ∷ 0x00 ∷ 0x00 ∷ 0x0A ∷ 0x00 ∷ []) flash
+      ∷ case [] (seven b) 3 10 0x0B [] flash
+      ∷ case (seven b ∷ []) (getStatus b) 0 10 0x0B (0x0B ∷ 0x00 ∷ 0x00 ∷ 0x00 ∷ 0x0A ∷ 0x00 ∷ []) flash
       -- 8
-      ∷ case [] close 1 10 0x0F [] flash
-      -- 9: one byte missing
-      ∷ case (eraseAll ∷ getStatus ∷ progOne ∷ getStatus ∷ []) close 3 10 0x09 [] wiped
+      ∷ case [] (close b) 1 10 0x0F [] flash
+      -- 9: a download of one byte is opened, and closed with none
+      ∷ case (eraseAll b ∷ getStatus b ∷ progOne b ∷ getStatus b ∷ []) (close b) 3 10 0x09 [] (wiped flash)
       -- 10: a zero byte is programmed and closed, and then lies in the range
-      ∷ case (eraseAll ∷ getStatus ∷ progZero ∷ getStatus ∷ close ∷ getStatus ∷ [])
-      (dnload (0x01 ∷ 0x00 ∷ 0x10 ∷ 0x00 ∷ 0x00 ∷ 0x04 ∷ 0x00 ∷ 0x00 ∷ []))
-      3
-      10
-      0x05
-      []
-      (spliced wiped (startOf 16) (0x00 ∷ []))
+      ∷ case (eraseAll b ∷ getStatus b ∷ progZero b ∷ getStatus b ∷ close b ∷ getStatus b ∷ [])
+      (dnload b (0x01 ∷ 0x00 ∷ 0x10 ∷ 0x00 ∷ 0x00 ∷ 0x04 ∷ 0x00 ∷ 0x00 ∷ [])) 3 10 0x05 [] (marred flash)
       -- 11: in state 10, and in state 2
-      ∷ case (seven ∷ []) clrStatus 0 2 0 [] flash
-      ∷ case [] clrStatus 1 10 0x0F [] flash
+      ∷ case (seven b ∷ []) (clrStatus b) 0 2 0 [] flash
+      ∷ case [] (clrStatus b) 1 10 0x0F [] flash
       ∷ []
 
--- all the starred examples hold
+-- all the starred examples hold, over any flash of 64 blocks and with any reply buffer that has room
 abbrev pub Desk : Type 0
 Desk =
     (part0 part1 : ℕ) (flash buffer : List ℕ) → length flash ≡ startOf 64 → 1024 ≤ length buffer
