@@ -2,7 +2,7 @@
 -- back put its bytes where they were. Assumes nothing.
 use Prim.Native.Nat.{ℕ, _+_, _-_, _≤_}
 use mathlib.Core.Bool.{true}
-use mathlib.Core.List.{List, [], _++_}
+use mathlib.Core.List.{List, []}
 use mathlib.Core.Path.{_≡_, refl, sym, ap, ap₂, _∙_, subst}
 use native.Mathlib.Omega.{arith}
 use lib.ListN.{length, take, drop, replicate, replicate-append-replicate, length-replicate}
@@ -12,7 +12,7 @@ use Rattle.flash.proofs.Laws.{length-blank, length-range, spliced-length, splic
 use Rattle.sums.specs.Sum.{freshSums}
 use Rattle.sums.specs.declared.Sums.{Sums}
 use Rattle.session.specs.Session.{downOf, noDownload, appEnd, boardOf, freshOf, wholeUpload}
-use Rattle.session.specs.Rules.{splitRule, inApplication}
+use Rattle.session.specs.Rules.{splitRule}
 use Rattle.session.specs.declared.Board.{Board}
 use Rattle.session.proofs.Laws.{fit-kept, end-in-flash, inside-facts, fresh-fit}
 use Rattle.request.specs.Request.{allowedOf}
@@ -25,7 +25,7 @@ use Rattle.demands.specs.ReadBack.{gathers, answersOf, reads, clears, se
 use Rattle.demands.proofs.ReadBackCalls.{siteOf, on-taken, abort-called}
 use Rattle.demands.proofs.ReadBackSessions.{inState, image, image-length, atIdle, atCommand, atUpload, command-fit, upload-fit}
 use Rattle.demands.proofs.ReadBackParts.{polled-on, read-called, blocks-legal, wiped-sums, erase-called}
-use Rattle.demands.proofs.ReadBackUploads.{Pieces, Gathered, all-read}
+use Rattle.demands.proofs.ReadBackUploads.{Gathered, all-read}
 use Rattle.demands.proofs.ReadBackDownloads.{Filled, all-sent}
 
 -- the first bytes of blank ones are blank
@@ -109,8 +109,8 @@ module _ (at : Site) (lent : List ℕ) (block len : ℕ) (m : MayReadBack at len
   unfolding hasCleared clears run movedTo polled entered cleared-ran cleared-flash cleared-sums allowedOf
   clears-on =
       let f = at .flash in
-      let polls = asks (poll lent) (λ _. ends tt) in
-      let erases = asks (dnload lent (eraseCommand block (nextStart len))) (λ _. polls) in
+      let polls : Host Unit = asks (poll lent) (λ _. ends tt) in
+      let erases : Host Unit = asks (dnload lent (eraseCommand block (nextStart len))) (λ _. polls) in
       let uploaded = inState board block len atUpload noDownload (8 + len) sums in
       ap (λ (x : Site). run x (clears lent block len)) (read-all .stops)
       ∙ on-taken (siteOf uploaded f) (abort lent) (λ _. erases) _ _ _ _
@@ -152,3 +152,16 @@ module _ (at : Site) (lent : List ℕ) (block len : ℕ) (m : MayReadBack at len
 
 pub ReadBack-holds : ReadBack
 ReadBack-holds = reads-back
+
+-- the premises can be met: A = 1, B = 4, an erased flash at a fresh start, and a range that ends inside its second block
+pub ReadBack-met : MayReadBack (siteOf (freshStart (blank 4096) (boardOf 1 4 0 0)) (blank 4096)) (blank 1024) 1 2000
+unfolding freshStart freshOf wholeUpload appEnd
+ReadBack-met =
+    record {
+      fit = fresh-fit (boardOf 1 4 0 0) (freshSums (blank 4096) 1 4) refl;
+      in-idle = refl;
+      prefixed = refl;
+      sized = length-blank 4096;
+      roomy = omega (arith, length-blank 1024);
+      legal = refl;
+    }

@@ -1,40 +1,34 @@
 -- The parts of reading back, request by request: what each leaves at the sessions of the run. Assumes nothing.
-use Prim.Native.Nat.{ℕ, zero, suc, _+_, _-_, _*_, _≤_, _<_, min}
-use mathlib.Core.Bool.{Bool, true, false, cond, _&&_}
-use mathlib.Core.List.{List, [], _∷_, _++_, append-assoc, append-nil}
-use mathlib.Core.Path.{_≡_, refl, sym, ap, ap₂, _∙_, subst}
+use Prim.Native.Nat.{ℕ, _+_, _≤_, _<_}
+use mathlib.Core.Bool.{true}
+use mathlib.Core.List.{List}
+use mathlib.Core.Path.{_≡_, refl, ap, ap₂, _∙_}
 use native.Mathlib.Omega.{arith}
 use borrow.Author.Tests.{eq-eqb, ne-eqb, le-leb, lt-ltb}
-use lib.Dec.{eqb, leb, ltb}
-use lib.ListN.{length, getD, take, drop, length-append, length-take, length-drop, take-append-drop}
-use lib.Seq.{take-append-seam, take-all, drop-drop}
-use Rattle.flash.specs.Flash.{startOf, nextStart, range, spliced, erased}
+use lib.ListN.{length, getD}
+use Rattle.flash.specs.Flash.{startOf, nextStart, range, erased}
 use Rattle.sums.specs.declared.Sums.{Sums}
 use Rattle.sums.specs.Sum.{refreshed}
 use Rattle.session.specs.Codes.{idle}
-use Rattle.session.specs.Session.{phaseOf, downOf, noDownload, upOf, withUp, appEnd, flashStream}
-use Rattle.session.specs.Rules.{fitOf, splitRule, inApplication}
+use Rattle.session.specs.Session.{noDownload, upOf, withUp, appEnd, flashStream}
+use Rattle.session.specs.Rules.{splitRule, inApplication}
 use Rattle.session.specs.declared.Board.{Board}
 use Rattle.session.specs.declared.Session.{Session}
 use Rattle.session.proofs.Laws.{fit-kept, split-facts, end-in-flash, inside-facts}
-use Rattle.request.specs.declared.Request.{Request}
 use Rattle.request.specs.Request.{allowedOf, wordAt}
-use Rattle.stream.specs.Stream.{nextOf, streamOf}
 use Rattle.stream.proofs.Laws.{four-bytes}
-use Rattle.moves.specs.declared.Answer.{Answer}
-use Rattle.moves.specs.Answers.{Done, Replied, done, leaves}
+use Rattle.moves.specs.Answers.{Done, leaves}
 use Rattle.moves.specs.Moves.{movedTo, toSync, takenOf}
 use Rattle.command.specs.Ready.{Ready}
 use Rattle.command.specs.Download.{longAt, dnloadOf, commandOf, carriedOut, wellFormed, readOf, eraseOf}
 use Rattle.command.proofs.Laws.{long-enough}
-use Rattle.loader.specs.Reply.{answered, entered, polled, getstatusOf}
-use Rattle.loader.specs.Upload.{placeOf, answerOf, uploadEnds, uploadingAt, uploadedOf, uploadOf}
-use Rattle.loader.specs.Step.{withReply, withFlash}
-use Rattle.demands.specs.Calls.{Call, Site, called}
-use Rattle.demands.specs.ReadBack.{Host, ends, asks, Ran, run, dnload, upload, poll, abort, readCommand, eraseCommand, keep, gathers}
-use Rattle.demands.proofs.ReadBackCalls.{siteOf, on-taken, is-yes, is-no, dnload-called, upload-called, poll-called, abort-called}
-use Rattle.demands.proofs.ReadBackSessions.{inState, image, image-streamed, atIdle, atCommand, atUpload, atPiece, atDownload}
-use Rattle.demands.proofs.ReadBackSessions.{idle-fit, command-fit, upload-fit, piece-fit, download-fit}
+use Rattle.loader.specs.Reply.{answered, polled, getstatusOf}
+use Rattle.loader.specs.Step.{withReply}
+use Rattle.demands.specs.Calls.{called}
+use Rattle.demands.specs.ReadBack.{Host, ends, asks, run, dnload, poll, readCommand, eraseCommand}
+use Rattle.demands.proofs.ReadBackCalls.{siteOf, on-taken, is-yes, dnload-called, poll-called}
+use Rattle.demands.proofs.ReadBackSessions.{inState, atIdle, atCommand}
+use Rattle.demands.proofs.ReadBackSessions.{idle-fit}
 
 module _ (s : Session) (f lent : List ℕ) (r : Ready s f) (room : 1024 ≤ length lent) where
   -- a poll

@@ -1,40 +1,31 @@
 -- The uploads of reading back: the answers are the stream in pieces of 1,024 bytes, and one shorter that ends it. Assumes nothing.
 use Prim.Native.Nat.{ℕ, zero, suc, _+_, _-_, _*_, _≤_, _<_, min}
-use mathlib.Core.Bool.{Bool, true, false, cond, _&&_}
+use mathlib.Core.Bool.{Bool, true, false, cond}
 use mathlib.Core.List.{List, [], _∷_, _++_, append-assoc, append-nil}
 use mathlib.Core.Path.{_≡_, refl, sym, ap, ap₂, _∙_, subst}
 use native.Mathlib.Omega.{arith}
-use borrow.Author.Tests.{eq-eqb, ne-eqb, le-leb, ltb-true, ltb-false, eqb-true, eqb-false}
-use lib.Dec.{eqb, leb, ltb}
-use lib.ListN.{length, getD, take, drop, length-append, length-take, length-drop, take-append-drop}
+use borrow.Author.Tests.{ne-eqb, ltb-true, ltb-false}
+use lib.Dec.{eqb, ltb}
+use lib.ListN.{length, take, drop, length-take, length-drop, take-append-drop}
 use lib.Seq.{take-append-seam, take-all, drop-drop}
-use Rattle.flash.specs.Flash.{startOf, nextStart, range, spliced, erased}
+use Rattle.flash.specs.Flash.{startOf}
 use Rattle.sums.specs.declared.Sums.{Sums}
-use Rattle.sums.specs.Sum.{refreshed}
-use Rattle.session.specs.Codes.{idle}
-use Rattle.session.specs.Session.{phaseOf, downOf, noDownload, upOf, withUp, appEnd, flashStream}
-use Rattle.session.specs.Rules.{fitOf, splitRule, inApplication}
+use Rattle.session.specs.Session.{noDownload}
+use Rattle.session.specs.Rules.{splitRule, inApplication}
 use Rattle.session.specs.declared.Board.{Board}
 use Rattle.session.specs.declared.Session.{Session}
-use Rattle.session.proofs.Laws.{fit-kept, split-facts, end-in-flash, inside-facts}
 use Rattle.request.specs.declared.Request.{Request}
-use Rattle.request.specs.Request.{allowedOf, wordAt}
+use Rattle.request.specs.Request.{allowedOf}
 use Rattle.stream.specs.Stream.{nextOf, streamOf}
-use Rattle.stream.proofs.Laws.{four-bytes}
-use Rattle.moves.specs.declared.Answer.{Answer}
-use Rattle.moves.specs.Answers.{Done, Replied, done, leaves}
-use Rattle.moves.specs.Moves.{movedTo, toSync, takenOf}
+use Rattle.moves.specs.Answers.{Replied}
 use Rattle.command.specs.Ready.{Ready}
-use Rattle.command.specs.Download.{longAt, dnloadOf, commandOf, carriedOut, wellFormed, readOf, eraseOf}
-use Rattle.command.proofs.Laws.{long-enough}
-use Rattle.loader.specs.Reply.{answered, entered, polled, getstatusOf}
+use Rattle.loader.specs.Reply.{answered}
 use Rattle.loader.specs.Upload.{placeOf, answerOf, uploadEnds, uploadingAt, uploadedOf, uploadOf}
-use Rattle.loader.specs.Step.{withReply, withFlash}
-use Rattle.demands.specs.Calls.{Call, Site, called}
-use Rattle.demands.specs.ReadBack.{Host, ends, asks, Ran, run, dnload, upload, poll, abort, keep, gathers, answersOf}
-use Rattle.demands.proofs.ReadBackCalls.{siteOf, on-taken, is-yes, is-no, dnload-called, upload-called, poll-called, abort-called}
-use Rattle.demands.proofs.ReadBackSessions.{inState, image, image-streamed, atIdle, atCommand, atUpload, atPiece, atDownload}
-use Rattle.demands.proofs.ReadBackSessions.{idle-fit, command-fit, upload-fit, piece-fit, download-fit}
+use Rattle.loader.specs.Step.{withFlash}
+use Rattle.demands.specs.ReadBack.{Host, ends, asks, Ran, run, upload, keep, gathers, answersOf}
+use Rattle.demands.proofs.ReadBackCalls.{siteOf, on-taken, is-no, upload-called}
+use Rattle.demands.proofs.ReadBackSessions.{inState, image, image-streamed, atIdle, atUpload}
+use Rattle.demands.proofs.ReadBackSessions.{idle-fit, upload-fit}
 
 -- answers that make up some bytes: none is empty, none has more than 1,024, and only the last may have fewer
 pub data Pieces : List (List ℕ) → List ℕ → Type 0 where
@@ -85,8 +76,8 @@ module _ (board : Board) (block len : ℕ) (sums : Sums) (f lent : List ℕ) whe
   uploaded-on s p w room go =
       let a = take 1024 (drop p stream) in
       let given : uploadOf s f 1024 lent ≡ answered (inState board block len atUpload noDownload (p + length a) sums) a lent =
-          ap₂ (λ (q : ℕ) (xs : List ℕ). answered (uploadingAt s (q + length (take 1024 (drop q xs)))) (take 1024 (drop q xs)) lent) (w .stands) (w .streams)
-          ∙ ap (λ (x : Session). answered x a lent) (w .goes-on (p + length a))
+      ap₂ (λ (q : ℕ) (xs : List ℕ). answered (uploadingAt s (q + length (take 1024 (drop q xs)))) (take 1024 (drop q xs)) lent) (w .stands) (w .streams)
+      ∙ ap (λ (x : Session). answered x a lent) (w .goes-on (p + length a))
       in
       on-taken (siteOf s f) (upload lent) go (length a) _ f _
       (upload-called s f lent (w .ready) room (w .allowed) ∙ ap (λ (x : Replied). withFlash x f) given)
@@ -163,9 +154,9 @@ module _ (board : Board) (block len : ℕ) (sums : Sums) (f lent : List ℕ) whe
     full-answer r p got full g =
         let a = answer p in
         let rest : a ++ drop (p + length a) stream ≡ drop p stream =
-            ap (λ (xs : List ℕ). a ++ xs) (sym (drop-drop (length a) p stream))
-            ∙ ap (λ (n : ℕ). a ++ drop n (drop p stream)) full
-            ∙ take-append-drop 1024 (drop p stream)
+        ap (λ (xs : List ℕ). a ++ xs) (sym (drop-drop (length a) p stream))
+        ∙ ap (λ (n : ℕ). a ++ drop n (drop p stream)) full
+        ∙ take-append-drop 1024 (drop p stream)
         in
         record {
           stops = g .stops;

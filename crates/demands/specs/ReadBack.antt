@@ -5,7 +5,7 @@ use mathlib.Core.List.{List, [], _∷_, _++_}
 use mathlib.Core.Path.{_≡_}
 use lib.Dec.{eqb, ltb}
 use lib.ListN.{length, take}
-use Rattle.flash.specs.Flash.{blockSize, startOf, nextStart, range, spliced, erased}
+use Rattle.flash.specs.Flash.{startOf, nextStart, range, spliced, erased}
 use Rattle.session.specs.Codes.{idle, downloadIdle}
 use Rattle.session.specs.Session.{downOf}
 use Rattle.session.specs.Rules.{inApplication, fitOf}
