@@ -16,16 +16,17 @@ use Rattle.session.specs.Rules.{splitRule}
 use Rattle.session.specs.declared.Board.{Board}
 use Rattle.session.proofs.Laws.{fit-kept, end-in-flash, inside-facts, fresh-fit}
 use Rattle.request.specs.Request.{allowedOf}
+use Rattle.stream.specs.Stream.{headerOf}
 use Rattle.moves.specs.Moves.{movedTo}
 use Rattle.loader.specs.Reply.{entered, polled}
 use Rattle.loader.specs.Step.{freshStart}
 use Rattle.demands.specs.Calls.{Site}
 use Rattle.demands.specs.ReadBack.{Host, ends, asks, Ran, run, dnload, poll, abort, readCommand, eraseCommand}
-use Rattle.demands.specs.ReadBack.{gathers, answersOf, reads, clears, sends, hasRead, hasCleared, hasSent, MayReadBack, ReadsBack, ReadBack}
+use Rattle.demands.specs.ReadBack.{progCommand, joined, gathers, answersOf, reads, clears, sends, hasRead, hasCleared, hasSent, MayReadBack, ReadsBack, ReadBack}
 use Rattle.demands.proofs.ReadBackCalls.{siteOf, on-taken, abort-called}
 use Rattle.demands.proofs.ReadBackSessions.{inState, image, image-length, atIdle, atCommand, atUpload, command-fit, upload-fit}
 use Rattle.demands.proofs.ReadBackParts.{polled-on, read-called, blocks-legal, wiped-sums, erase-called}
-use Rattle.demands.proofs.ReadBackUploads.{Gathered, all-read}
+use Rattle.demands.proofs.ReadBackUploads.{Gathered, all-read, pieces-joined}
 use Rattle.demands.proofs.ReadBackDownloads.{Filled, all-sent}
 
 -- the first bytes of blank ones are blank
@@ -131,7 +132,7 @@ module _ (at : Site) (lent : List ℕ) (block len : ℕ) (m : MayReadBack at len
       (length-range (at .flash) (startOf block) len in-flash))
 
   reads-back : ReadsBack at lent block len
-  unfolding cleared-flash cleared-ran
+  unfolding cleared-flash cleared-ran progCommand headerOf
   reads-back =
       let bytes = range (at .flash) (startOf block) len in
       let long = length-range (at .flash) (startOf block) len in-flash in
@@ -139,6 +140,7 @@ module _ (at : Site) (lent : List ℕ) (block len : ℕ) (m : MayReadBack at len
         read-taken = read-all .taken;
         clear-taken = ap (λ (r : Ran Unit). r .taken) clears-on;
         send-taken = sent-all .taken;
+        all-heard = ap joined (read-all .joins) ∙ pieces-joined (read-all .pieces);
         untouched = ap (λ (x : Site). x .flash) (read-all .stops);
         cleared = ap (λ (r : Ran Unit). r .site .flash) clears-on;
         filled = sent-all .flash;

@@ -22,7 +22,7 @@ use Rattle.command.specs.Ready.{Ready}
 use Rattle.loader.specs.Reply.{answered}
 use Rattle.loader.specs.Upload.{placeOf, answerOf, uploadEnds, uploadingAt, uploadedOf, uploadOf}
 use Rattle.loader.specs.Step.{withFlash}
-use Rattle.demands.specs.ReadBack.{Host, ends, asks, Ran, run, upload, keep, gathers, answersOf}
+use Rattle.demands.specs.ReadBack.{Host, ends, asks, Ran, run, upload, keep, joined, gathers, answersOf}
 use Rattle.demands.proofs.ReadBackCalls.{siteOf, on-taken, is-no, upload-called}
 use Rattle.demands.proofs.ReadBackSessions.{inState, image, image-streamed, atIdle, atUpload}
 use Rattle.demands.proofs.ReadBackSessions.{idle-fit, upload-fit}
@@ -34,6 +34,12 @@ pub data Pieces : List (List ℕ) → List ℕ → Type 0 where
       {p rest : List ℕ} {ps : List (List ℕ)} → 0 < length p → length p ≤ 1024 → (0 < length rest → length p ≡ 1024)
       → Pieces ps rest → Pieces (p ∷ ps) (p ++ rest)
 
+pub pieces-joined : {ps : List (List ℕ)} {xs : List ℕ} → Pieces ps xs → joined ps ≡ xs
+unfolding joined
+pieces-joined none = refl
+pieces-joined (more {p} some few full then) = ap (λ (xs : List ℕ). p ++ xs) (pieces-joined then)
+
+-- an answer that the host keeps: behind those that it has, as the last of the stream, and as one of 1,024 bytes
 joins-by : (t : Bool) (got : List (List ℕ)) (a : List ℕ) → cond t got (got ++ (a ∷ [])) ≡ got ++ cond t [] ([] ++ (a ∷ []))
 joins-by true got a = sym (append-nil got)
 joins-by false got a = refl
