@@ -22,7 +22,8 @@ use Rattle.loader.specs.Reply.{entered, polled}
 use Rattle.loader.specs.Step.{freshStart}
 use Rattle.demands.specs.Calls.{Site}
 use Rattle.demands.specs.ReadBack.{Host, ends, asks, Ran, run, dnload, poll, abort, readCommand, eraseCommand}
-use Rattle.demands.specs.ReadBack.{progCommand, joined, gathers, answersOf, reads, clears, sends, hasRead, hasCleared, hasSent, MayReadBack, ReadsBack, ReadBack}
+use Rattle.demands.specs.ReadBack.{progCommand, joined, gathers, answersOf, reads, clears, sends}
+use Rattle.demands.specs.ReadBack.{hasRead, hasCleared, hasSent, MayReadBack, ReadsBack, ReadBack}
 use Rattle.demands.proofs.ReadBackCalls.{siteOf, on-taken, abort-called}
 use Rattle.demands.proofs.ReadBackSessions.{inState, image, image-length, atIdle, atCommand, atUpload, command-fit, upload-fit}
 use Rattle.demands.proofs.ReadBackParts.{polled-on, read-called, blocks-legal, wiped-sums, erase-called}
@@ -64,12 +65,15 @@ module _ (at : Site) (lent : List ℕ) (block len : ℕ) (m : MayReadBack at len
   split = fit-kept (at .session) (m .fit) .split
 
   -- the first part
-  reads-on : hasRead at lent block len ≡ run (siteOf (inState board block len atIdle noDownload 0 sums) (at .flash)) (gathers lent (answersOf (8 + len)) [])
+  reads-on :
+      hasRead at lent block len
+      ≡ run (siteOf (inState board block len atIdle noDownload 0 sums) (at .flash)) (gathers lent (answersOf (8 + len)) [])
   unfolding hasRead reads polled entered
   reads-on =
       let gather = gathers lent (answersOf (8 + len)) [] in
       on-taken at (dnload lent (readCommand block len)) (λ _. asks (poll lent) (λ _. gather)) _ _ _ _
-      (read-called (at .session) (at .flash) lent block len (record { fit = m .fit; sized = m .sized }) (m .roomy) (m .in-idle) (m .prefixed) (m .legal))
+      (read-called (at .session) (at .flash) lent block len (record { fit = m .fit; sized = m .sized }) (m .roomy) (m .in-idle)
+      (m .prefixed) (m .legal))
       ∙ polled-on (inState board block len atCommand noDownload 0 sums) (at .flash) lent
       (record { fit = command-fit board block len split (m .legal) sums; sized = m .sized }) (m .roomy) gather
 
@@ -115,8 +119,10 @@ module _ (at : Site) (lent : List ℕ) (block len : ℕ) (m : MayReadBack at len
       let uploaded = inState board block len atUpload noDownload (8 + len) sums in
       ap (λ (x : Site). run x (clears lent block len)) (read-all .stops)
       ∙ on-taken (siteOf uploaded f) (abort lent) (λ _. erases) _ _ _ _
-      (abort-called uploaded f lent (record { fit = upload-fit board block len split (m .legal) sums (8 + len) (omega arith); sized = m .sized }) (m .roomy) refl)
-      ∙ on-taken (siteOf (inState board block len atIdle noDownload 0 sums) f) (dnload lent (eraseCommand block (nextStart len))) (λ _. polls) _ _ _ _
+      (abort-called uploaded f lent
+      (record { fit = upload-fit board block len split (m .legal) sums (8 + len) (omega arith); sized = m .sized }) (m .roomy) refl)
+      ∙ on-taken (siteOf (inState board block len atIdle noDownload 0 sums) f)
+      (dnload lent (eraseCommand block (nextStart len))) (λ _. polls) _ _ _ _
       (erase-called board block len sums f lent split (m .legal) (m .sized) (m .roomy))
       ∙ polled-on (inState board block len atCommand noDownload 0 cleared-sums) cleared-flash lent
       (record { fit = command-fit board block len split (m .legal) cleared-sums; sized = cleared-sized }) (m .roomy) (ends tt)

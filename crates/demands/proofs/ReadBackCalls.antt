@@ -60,7 +60,9 @@ pub is-no : {A : Type 0} (t : Bool) (x y : A) → t ≡ false → cond t x y ≡
 is-no t x y e = ap (λ (b : Bool). cond b x y) e
 
 -- a ready call of an allowed request is served
-module _ (s : Session) (f setup d reply : List ℕ) (r : Ready s f) (room : 1024 ≤ length reply) (eight : length setup ≡ 8) (asked : length d ≡ dataAsked setup) where
+module _
+    (s : Session) (f setup d reply : List ℕ) (r : Ready s f) (room : 1024 ≤ length reply)
+    (eight : length setup ≡ 8) (asked : length d ≡ dataAsked setup) where
   is-ready : ready s (length f) setup (length d) (length reply) ≡ true
   unfolding ready
   is-ready = rw (eq-eqb _ _ eight, le-leb _ _ room, eq-eqb _ _ (r .sized), eq-eqb _ _ asked, r .fit)

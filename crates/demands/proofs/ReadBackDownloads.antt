@@ -62,7 +62,9 @@ filled-after r g at d rest h w =
       down = w .down ∙ ap (λ (n : ℕ). downOf n 0) (omega (arith, length-append d rest));
     }
 
-module _ (board : Board) (block len : ℕ) (lent : List ℕ) (split : splitRule board ≡ true) (legal : inApplication board block len ≡ true) (room : 1024 ≤ length lent) where
+module _
+    (board : Board) (block len : ℕ) (lent : List ℕ) (split : splitRule board ≡ true)
+    (legal : inApplication board block len ≡ true) (room : 1024 ≤ length lent) where
   -- a download at a place with so many bytes left, between two polls and before one
   loading : ℕ → ℕ → Sums → Session
   loading at left sums = inState board block len atDownload (downOf at left) 0 sums
@@ -79,7 +81,9 @@ module _ (board : Board) (block len : ℕ) (lent : List ℕ) (split : splitRule 
   inside-flash : (g : List ℕ) (at left : ℕ) → Ahead g at left → at + left ≤ length g
   inside-flash g at left w = omega (arith, end-in-flash board)
 
-  behind : (g : List ℕ) (at left : ℕ) (d : List ℕ) (rest : ℕ) → Ahead g at left → left ≡ length d + rest → Ahead (spliced g at d) (at + length d) rest
+  behind :
+      (g : List ℕ) (at left : ℕ) (d : List ℕ) (rest : ℕ) → Ahead g at left → left ≡ length d + rest
+      → Ahead (spliced g at d) (at + length d) rest
   behind g at left d rest w e =
       let inside = inside-flash g at left w in
       record { sized = spliced-length g at d (omega arith) ∙ w .sized; from = omega arith; to = omega arith }

@@ -89,7 +89,9 @@ module _ (board : Board) (block len : ℕ) (sums : Sums) (f : List ℕ) where
   abbrev pub wiped-sums : Sums
   wiped-sums = refreshed sums (erased f block (nextStart len)) (board .a .0) (appEnd board) block (block + nextStart len)
 
-module _ (board : Board) (block len : ℕ) (sums : Sums) (f lent : List ℕ) (split : splitRule board ≡ true) (legal : inApplication board block len ≡ true) (sized : length f ≡ startOf (board .b .0)) (room : 1024 ≤ length lent) where
+module _
+    (board : Board) (block len : ℕ) (sums : Sums) (f lent : List ℕ) (split : splitRule board ≡ true)
+    (legal : inApplication board block len ≡ true) (sized : length f ≡ startOf (board .b .0)) (room : 1024 ≤ length lent) where
   pub erase-called :
       called (siteOf (inState board block len atIdle noDownload 0 sums) f) (dnload lent (eraseCommand block (nextStart len)))
       ≡ leaves (takenOf (inState board block len atCommand noDownload 0 (wiped-sums board block len sums f))) (erased f block (nextStart len)) lent
@@ -100,6 +102,7 @@ module _ (board : Board) (block len : ℕ) (sums : Sums) (f lent : List ℕ) (sp
       let count = nextStart len in
       let the-block : wordAt (eraseCommand block count) 2 ≡ block = omega arith in
       let the-count : wordAt (eraseCommand block count) 4 ≡ count = omega arith in
-      command-called s f lent (record { fit = idle-fit board block len split legal sums; sized = sized }) room (eraseCommand block count) refl refl (omega arith)
+      command-called s f lent (record { fit = idle-fit board block len split legal sums; sized = sized }) room
+      (eraseCommand block count) refl refl (omega arith)
       ∙ ap₂ (λ (b n : ℕ). withReply (eraseOf s f b n) lent) the-block the-count
       ∙ ap (λ (x : Done). withReply x lent) (is-yes _ _ _ (blocks-legal board block len legal))

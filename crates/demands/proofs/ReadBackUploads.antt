@@ -82,12 +82,15 @@ module _ (board : Board) (block len : ℕ) (sums : Sums) (f lent : List ℕ) whe
   uploaded-on s p w room go =
       let a = take 1024 (drop p stream) in
       let given : uploadOf s f 1024 lent ≡ answered (inState board block len atUpload noDownload (p + length a) sums) a lent =
-      ap₂ (λ (q : ℕ) (xs : List ℕ). answered (uploadingAt s (q + length (take 1024 (drop q xs)))) (take 1024 (drop q xs)) lent) (w .stands) (w .streams)
+      ap₂
+      (λ (q : ℕ) (xs : List ℕ). answered (uploadingAt s (q + length (take 1024 (drop q xs)))) (take 1024 (drop q xs)) lent)
+      (w .stands) (w .streams)
       ∙ ap (λ (x : Session). answered x a lent) (w .goes-on (p + length a))
       in
       on-taken (siteOf s f) (upload lent) go (length a) _ f _
       (upload-called s f lent (w .ready) room (w .allowed) ∙ ap (λ (x : Replied). withFlash x f) given)
-      ∙ ap (λ (x : List ℕ). run (siteOf (inState board block len atUpload noDownload (p + length a) sums) f) (go x)) (take-append-seam a (drop (length a) lent))
+      ∙ ap (λ (x : List ℕ). run (siteOf (inState board block len atUpload noDownload (p + length a) sums) f) (go x))
+      (take-append-seam a (drop (length a) lent))
 
   -- what the uploads leave: all taken, the session at the stream's end, and the stream in pieces behind what the host had
   pub record Gathered (r : Ran (List (List ℕ))) (got : List (List ℕ)) (xs : List ℕ) : Type 0 where
@@ -97,6 +100,7 @@ module _ (board : Board) (block len : ℕ) (sums : Sums) (f lent : List ℕ) whe
     pub joins : r .got ≡ got ++ parts
     pub pieces : Pieces parts xs
 
+  -- the answer from a place on, and the session that it leaves
   answer : ℕ → List ℕ
   answer p = take 1024 (drop p stream)
 
@@ -179,8 +183,13 @@ module _ (board : Board) (block len : ℕ) (sums : Sums) (f lent : List ℕ) whe
 
     by-length :
         (t : Bool) (n p : ℕ) (got : List (List ℕ)) → ltb (length (answer p)) 1024 ≡ t → p ≤ 8 + len
-        → (length (answer p) ≡ 1024 → Gathered (run (siteOf (after-answer p) f) (gathers lent n (keep got (answer p)))) (keep got (answer p)) (drop (p + length (answer p)) stream))
-        → Gathered (run (siteOf (after-answer p) f) (cond t (ends (keep got (answer p))) (gathers lent n (keep got (answer p))))) got (drop p stream)
+        → (length (answer p) ≡ 1024
+        → Gathered (run (siteOf (after-answer p) f) (gathers lent n (keep got (answer p)))) (keep got (answer p))
+        (drop (p + length (answer p)) stream))
+        → Gathered
+        (run (siteOf (after-answer p) f) (cond t (ends (keep got (answer p))) (gathers lent n (keep got (answer p)))))
+        got
+        (drop p stream)
     by-length true n p got e h then = last-answer p got h (ltb-true _ _ e)
     by-length false n p got e h then =
         let l = answer-length p in
@@ -195,10 +204,14 @@ module _ (board : Board) (block len : ℕ) (sums : Sums) (f lent : List ℕ) whe
     gathered zero p got s w h enough = absurd (omega arith)
     gathered (suc n) p got s w h enough =
         let l = answer-length p in
-        let go : List ℕ → Host (List (List ℕ)) = λ bytes. cond (ltb (length bytes) 1024) (ends (keep got bytes)) (gathers lent n (keep got bytes)) in
+        let go : List ℕ → Host (List (List ℕ)) =
+        λ bytes. cond (ltb (length bytes) 1024) (ends (keep got bytes)) (gathers lent n (keep got bytes))
+        in
         subst (λ (r : Ran (List (List ℕ))). Gathered r got (drop p stream)) (sym (uploaded-on s p w room go))
         (by-length (ltb (length (answer p)) 1024) n p got refl h
-        (λ full. gathered n (p + length (answer p)) (keep got (answer p)) (after-answer p) (further (p + length (answer p)) (omega arith)) (omega arith) (omega arith)))
+        (λ full.
+        gathered n (p + length (answer p)) (keep got (answer p)) (after-answer p)
+        (further (p + length (answer p)) (omega arith)) (omega arith) (omega arith)))
 
     pub all-read :
         Gathered (run (siteOf (inState board block len atIdle noDownload 0 sums) f) (gathers lent (answersOf (8 + len)) [])) []
