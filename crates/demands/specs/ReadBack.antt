@@ -145,6 +145,7 @@ pub record ReadsBack (at : Site) (lent : List ℕ) (block len : ℕ) : Type 0 wh
   pub in-download-idle : hasSent at lent block len .site .session .phase .state .0 ≡ downloadIdle
   pub none-left : hasSent at lent block len .site .session .down ≡ downOf (startOf block + len) 0
 
+-- read-back: wherever it is claimed, it is so
 abbrev pub ReadBack : Type 0
 ReadBack =
     (at : Site) (lent : List ℕ) (block len : ℕ) → MayReadBack at lent block len → ReadsBack at lent block len
