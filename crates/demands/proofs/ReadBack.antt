@@ -2,7 +2,7 @@
 -- back put its bytes where they were. Assumes nothing.
 use Prim.Native.Nat.{ℕ, _+_, _-_, _≤_}
 use mathlib.Core.Bool.{true}
-use mathlib.Core.List.{List, [], _++_}
+use mathlib.Core.List.{List, []}
 use mathlib.Core.Path.{_≡_, refl, sym, ap, ap₂, _∙_, subst}
 use native.Mathlib.Omega.{arith}
 use lib.ListN.{length, take, drop, replicate, replicate-append-replicate, length-replicate}
@@ -12,20 +12,22 @@ use Rattle.flash.proofs.Laws.{length-blank, length-range, spliced-length, splic
 use Rattle.sums.specs.Sum.{freshSums}
 use Rattle.sums.specs.declared.Sums.{Sums}
 use Rattle.session.specs.Session.{downOf, noDownload, appEnd, boardOf, freshOf, wholeUpload}
-use Rattle.session.specs.Rules.{splitRule, inApplication}
+use Rattle.session.specs.Rules.{splitRule}
 use Rattle.session.specs.declared.Board.{Board}
 use Rattle.session.proofs.Laws.{fit-kept, end-in-flash, inside-facts, fresh-fit}
 use Rattle.request.specs.Request.{allowedOf}
+use Rattle.stream.specs.Stream.{headerOf}
 use Rattle.moves.specs.Moves.{movedTo}
 use Rattle.loader.specs.Reply.{entered, polled}
 use Rattle.loader.specs.Step.{freshStart}
 use Rattle.demands.specs.Calls.{Site}
 use Rattle.demands.specs.ReadBack.{Host, ends, asks, Ran, run, dnload, poll, abort, readCommand, eraseCommand}
-use Rattle.demands.specs.ReadBack.{gathers, answersOf, reads, clears, sends, hasRead, hasCleared, hasSent, MayReadBack, ReadsBack, ReadBack}
+use Rattle.demands.specs.ReadBack.{progCommand, joined, gathers, answersOf, reads, clears, sends}
+use Rattle.demands.specs.ReadBack.{hasRead, hasCleared, hasSent, MayReadBack, ReadsBack, ReadBack}
 use Rattle.demands.proofs.ReadBackCalls.{siteOf, on-taken, abort-called}
 use Rattle.demands.proofs.ReadBackSessions.{inState, image, image-length, atIdle, atCommand, atUpload, command-fit, upload-fit}
 use Rattle.demands.proofs.ReadBackParts.{polled-on, read-called, blocks-legal, wiped-sums, erase-called}
-use Rattle.demands.proofs.ReadBackUploads.{Pieces, Gathered, all-read}
+use Rattle.demands.proofs.ReadBackUploads.{Gathered, all-read, pieces-joined}
 use Rattle.demands.proofs.ReadBackDownloads.{Filled, all-sent}
 
 -- the first bytes of blank ones are blank
@@ -63,12 +65,15 @@ module _ (at : Site) (lent : List ℕ) (block len : ℕ) (m : MayReadBack at len
   split = fit-kept (at .session) (m .fit) .split
 
   -- the first part
-  reads-on : hasRead at lent block len ≡ run (siteOf (inState board block len atIdle noDownload 0 sums) (at .flash)) (gathers lent (answersOf (8 + len)) [])
+  reads-on :
+      hasRead at lent block len
+      ≡ run (siteOf (inState board block len atIdle noDownload 0 sums) (at .flash)) (gathers lent (answersOf (8 + len)) [])
   unfolding hasRead reads polled entered
   reads-on =
       let gather = gathers lent (answersOf (8 + len)) [] in
       on-taken at (dnload lent (readCommand block len)) (λ _. asks (poll lent) (λ _. gather)) _ _ _ _
-      (read-called (at .session) (at .flash) lent block len (record { fit = m .fit; sized = m .sized }) (m .roomy) (m .in-idle) (m .prefixed) (m .legal))
+      (read-called (at .session) (at .flash) lent block len (record { fit = m .fit; sized = m .sized }) (m .roomy) (m .in-idle)
+      (m .prefixed) (m .legal))
       ∙ polled-on (inState board block len atCommand noDownload 0 sums) (at .flash) lent
       (record { fit = command-fit board block len split (m .legal) sums; sized = m .sized }) (m .roomy) gather
 
@@ -109,13 +114,15 @@ module _ (at : Site) (lent : List ℕ) (block len : ℕ) (m : MayReadBack at len
   unfolding hasCleared clears run movedTo polled entered cleared-ran cleared-flash cleared-sums allowedOf
   clears-on =
       let f = at .flash in
-      let polls = asks (poll lent) (λ _. ends tt) in
-      let erases = asks (dnload lent (eraseCommand block (nextStart len))) (λ _. polls) in
+      let polls : Host Unit = asks (poll lent) (λ _. ends tt) in
+      let erases : Host Unit = asks (dnload lent (eraseCommand block (nextStart len))) (λ _. polls) in
       let uploaded = inState board block len atUpload noDownload (8 + len) sums in
       ap (λ (x : Site). run x (clears lent block len)) (read-all .stops)
       ∙ on-taken (siteOf uploaded f) (abort lent) (λ _. erases) _ _ _ _
-      (abort-called uploaded f lent (record { fit = upload-fit board block len split (m .legal) sums (8 + len) (omega arith); sized = m .sized }) (m .roomy) refl)
-      ∙ on-taken (siteOf (inState board block len atIdle noDownload 0 sums) f) (dnload lent (eraseCommand block (nextStart len))) (λ _. polls) _ _ _ _
+      (abort-called uploaded f lent
+      (record { fit = upload-fit board block len split (m .legal) sums (8 + len) (omega arith); sized = m .sized }) (m .roomy) refl)
+      ∙ on-taken (siteOf (inState board block len atIdle noDownload 0 sums) f)
+      (dnload lent (eraseCommand block (nextStart len))) (λ _. polls) _ _ _ _
       (erase-called board block len sums f lent split (m .legal) (m .sized) (m .roomy))
       ∙ polled-on (inState board block len atCommand noDownload 0 cleared-sums) cleared-flash lent
       (record { fit = command-fit board block len split (m .legal) cleared-sums; sized = cleared-sized }) (m .roomy) (ends tt)
@@ -131,7 +138,7 @@ module _ (at : Site) (lent : List ℕ) (block len : ℕ) (m : MayReadBack at len
       (length-range (at .flash) (startOf block) len in-flash))
 
   reads-back : ReadsBack at lent block len
-  unfolding cleared-flash cleared-ran
+  unfolding cleared-flash cleared-ran progCommand headerOf
   reads-back =
       let bytes = range (at .flash) (startOf block) len in
       let long = length-range (at .flash) (startOf block) len in-flash in
@@ -139,6 +146,7 @@ module _ (at : Site) (lent : List ℕ) (block len : ℕ) (m : MayReadBack at len
         read-taken = read-all .taken;
         clear-taken = ap (λ (r : Ran Unit). r .taken) clears-on;
         send-taken = sent-all .taken;
+        all-heard = ap joined (read-all .joins) ∙ pieces-joined (read-all .pieces);
         untouched = ap (λ (x : Site). x .flash) (read-all .stops);
         cleared = ap (λ (r : Ran Unit). r .site .flash) clears-on;
         filled = sent-all .flash;
@@ -152,3 +160,16 @@ module _ (at : Site) (lent : List ℕ) (block len : ℕ) (m : MayReadBack at len
 
 pub ReadBack-holds : ReadBack
 ReadBack-holds = reads-back
+
+-- the premises can be met: A = 1, B = 4, an erased flash at a fresh start, and a range that ends inside its second block
+pub ReadBack-met : MayReadBack (siteOf (freshStart (blank 4096) (boardOf 1 4 0 0)) (blank 4096)) (blank 1024) 1 2000
+unfolding freshStart freshOf wholeUpload appEnd
+ReadBack-met =
+    record {
+      fit = fresh-fit (boardOf 1 4 0 0) (freshSums (blank 4096) 1 4) refl;
+      in-idle = refl;
+      prefixed = refl;
+      sized = length-blank 4096;
+      roomy = omega (arith, length-blank 1024);
+      legal = refl;
+    }

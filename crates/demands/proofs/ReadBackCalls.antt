@@ -1,16 +1,12 @@
 -- The calls of the host that reads back: each is ready where the session is fit, is the request that it is meant to be, and is
 -- served where the state allows it. Assumes nothing.
-use Prim.Native.Nat.{ℕ, _+_, _*_, _/_, _%_, _≤_, _<_}
-use mathlib.Core.Bool.{Bool, true, false, cond, _&&_}
-use mathlib.Core.List.{List, [], _∷_, _++_}
+use Prim.Native.Nat.{ℕ, _+_, _*_, _/_, _%_, _≤_}
+use mathlib.Core.Bool.{Bool, true, false, cond}
+use mathlib.Core.List.{List, []}
 use mathlib.Core.Path.{_≡_, refl, sym, ap, ap₂, _∙_}
 use native.Mathlib.Omega.{arith}
 use borrow.Author.Tests.{eq-eqb, le-leb}
-use lib.Dec.{eqb, leb}
-use lib.ListN.{length, take, drop}
-use lib.Seq.{take-append-seam}
-use Rattle.flash.specs.Flash.{startOf}
-use Rattle.session.specs.Rules.{fitOf}
+use lib.ListN.{length, take}
 use Rattle.session.specs.declared.Session.{Session}
 use Rattle.request.specs.declared.Request.{Request}
 use Rattle.request.specs.Request.{setupOf, formOf, requestOf, wLength, dataAsked, allowedOf}
@@ -19,11 +15,11 @@ use Rattle.moves.specs.Answers.{Leaves, outcome, leaves}
 use Rattle.moves.specs.Moves.{toIdle, takenOf}
 use Rattle.command.specs.Ready.{Ready}
 use Rattle.command.specs.Download.{dnloadOf}
-use Rattle.loader.specs.Reply.{answered, getstatusOf}
+use Rattle.loader.specs.Reply.{getstatusOf}
 use Rattle.loader.specs.Upload.{uploadOf}
 use Rattle.loader.specs.Step.{ready, served, stepOf, withReply, withFlash}
 use Rattle.demands.specs.Calls.{Call, Site, called, next}
-use Rattle.demands.specs.ReadBack.{Host, ends, asks, heard, wasTaken, Ran, ranAfter, run}
+use Rattle.demands.specs.ReadBack.{Host, asks, heard, wasTaken, ranAfter, run}
 use Rattle.demands.specs.ReadBack.{setupFor, dnload, upload, poll, abort}
 
 -- a session and the flash that it speaks of
@@ -64,7 +60,9 @@ pub is-no : {A : Type 0} (t : Bool) (x y : A) → t ≡ false → cond t x y ≡
 is-no t x y e = ap (λ (b : Bool). cond b x y) e
 
 -- a ready call of an allowed request is served
-module _ (s : Session) (f setup d reply : List ℕ) (r : Ready s f) (room : 1024 ≤ length reply) (eight : length setup ≡ 8) (asked : length d ≡ dataAsked setup) where
+module _
+    (s : Session) (f setup d reply : List ℕ) (r : Ready s f) (room : 1024 ≤ length reply)
+    (eight : length setup ≡ 8) (asked : length d ≡ dataAsked setup) where
   is-ready : ready s (length f) setup (length d) (length reply) ≡ true
   unfolding ready
   is-ready = rw (eq-eqb _ _ eight, le-leb _ _ room, eq-eqb _ _ (r .sized), eq-eqb _ _ asked, r .fit)

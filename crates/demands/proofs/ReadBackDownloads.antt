@@ -1,18 +1,16 @@
 -- The downloads of reading back: the first answer is the PROG command with its first data, each other one a piece, and together they
 -- fill the range. Assumes nothing.
-use Prim.Native.Nat.{ℕ, zero, suc, _+_, _-_, _*_, _≤_, _<_}
-use mathlib.Core.Bool.{Bool, true, false, cond, _&&_}
-use mathlib.Core.List.{List, [], _∷_, _++_, append-assoc, append-nil}
+use Prim.Native.Nat.{ℕ, _+_, _-_, _≤_, _<_}
+use mathlib.Core.Bool.{true}
+use mathlib.Core.List.{List, [], _∷_, _++_, append-nil}
 use mathlib.Core.Path.{_≡_, refl, sym, ap, ap₂, _∙_, subst}
 use native.Mathlib.Decide.{ℕ-discrete}
 use native.Mathlib.Nat.{add-zero}
 use native.Mathlib.Omega.{arith}
-use borrow.Author.Tests.{eq-eqb, ne-eqb, le-leb, lt-ltb}
-use lib.Dec.{eqb, leb, ltb}
-use lib.ListN.{length, getD, take, drop, length-append, length-drop, take-append-drop}
+use borrow.Author.Tests.{ne-eqb, le-leb}
+use lib.ListN.{length, take, drop, length-append, length-drop, take-append-drop}
 use lib.Seq.{take-append-le, drop-append-le}
 use Rattle.flash.specs.Flash.{startOf, range, spliced, blank}
-use Rattle.flash.specs.declared.Found.{Found}
 use Rattle.flash.proofs.Laws.{spliced-length, spliced-join}
 use Rattle.flash.proofs.Unerased.{blank-searched}
 use Rattle.sums.specs.declared.Sums.{Sums}
@@ -20,20 +18,18 @@ use Rattle.session.specs.Codes.{downloadIdle}
 use Rattle.session.specs.Session.{downOf, noDownload, upOf, appEnd, flashStream}
 use Rattle.session.specs.Rules.{splitRule, inApplication}
 use Rattle.session.specs.declared.Board.{Board}
-use Rattle.session.specs.declared.Download.{Download}
 use Rattle.session.specs.declared.Session.{Session}
-use Rattle.session.proofs.Laws.{split-facts, end-in-flash, inside-facts}
+use Rattle.session.proofs.Laws.{end-in-flash, inside-facts}
 use Rattle.request.specs.Request.{allowedOf, wordAt}
 use Rattle.stream.specs.Stream.{headerOf}
 use Rattle.stream.proofs.Laws.{four-bytes}
 use Rattle.moves.specs.Answers.{Done, leaves}
 use Rattle.moves.specs.Moves.{movedTo, takenOf}
-use Rattle.command.specs.Ready.{Ready}
 use Rattle.command.specs.Download.{longAt, nothing, allErased, sumsAfter, wroteOf, progOf, wellFormed, carriedOut, pieceOf, dnloadOf}
 use Rattle.loader.specs.Reply.{entered, polled}
 use Rattle.loader.specs.Step.{withReply}
 use Rattle.demands.specs.Calls.{Site, called}
-use Rattle.demands.specs.ReadBack.{Host, ends, asks, Ran, run, dnload, poll, sends}
+use Rattle.demands.specs.ReadBack.{Host, asks, Ran, run, dnload, poll, sends}
 use Rattle.demands.proofs.ReadBackCalls.{siteOf, on-taken, is-yes, is-no, dnload-called}
 use Rattle.demands.proofs.ReadBackSessions.{inState, atIdle, atPiece, atDownload, idle-fit, piece-fit, download-fit}
 use Rattle.demands.proofs.ReadBackParts.{polled-on, command-called, near}
@@ -66,7 +62,9 @@ filled-after r g at d rest h w =
       down = w .down ∙ ap (λ (n : ℕ). downOf n 0) (omega (arith, length-append d rest));
     }
 
-module _ (board : Board) (block len : ℕ) (lent : List ℕ) (split : splitRule board ≡ true) (legal : inApplication board block len ≡ true) (room : 1024 ≤ length lent) where
+module _
+    (board : Board) (block len : ℕ) (lent : List ℕ) (split : splitRule board ≡ true)
+    (legal : inApplication board block len ≡ true) (room : 1024 ≤ length lent) where
   -- a download at a place with so many bytes left, between two polls and before one
   loading : ℕ → ℕ → Sums → Session
   loading at left sums = inState board block len atDownload (downOf at left) 0 sums
@@ -83,7 +81,9 @@ module _ (board : Board) (block len : ℕ) (lent : List ℕ) (split : splitRule 
   inside-flash : (g : List ℕ) (at left : ℕ) → Ahead g at left → at + left ≤ length g
   inside-flash g at left w = omega (arith, end-in-flash board)
 
-  behind : (g : List ℕ) (at left : ℕ) (d : List ℕ) (rest : ℕ) → Ahead g at left → left ≡ length d + rest → Ahead (spliced g at d) (at + length d) rest
+  behind :
+      (g : List ℕ) (at left : ℕ) (d : List ℕ) (rest : ℕ) → Ahead g at left → left ≡ length d + rest
+      → Ahead (spliced g at d) (at + length d) rest
   behind g at left d rest w e =
       let inside = inside-flash g at left w in
       record { sized = spliced-length g at d (omega arith) ∙ w .sized; from = omega arith; to = omega arith }
@@ -183,13 +183,13 @@ module _ (board : Board) (block len : ℕ) (lent : List ℕ) (split : splitRule 
         let small = near board block len split legal in
         let sum : length p + length rest ≡ 8 + len = omega (arith, length-append p rest, ap length e) in
         let long : 8 ≤ length p =
-            elim (ℕ-discrete (length rest) 0) [ yes z ↦ omega arith | no n ↦ (let whole = full (omega arith) in omega arith) ]
+        elim (ℕ-discrete (length rest) 0) [ yes z ↦ omega arith | no n ↦ (let whole = full (omega arith) in omega arith) ]
         in
         let x = drop 8 p in
         let x-length = length-drop 8 p in
         let first : p ≡ header ++ x =
-            sym (take-append-drop 8 p)
-            ∙ ap (λ (h : List ℕ). h ++ x) (sym (take-append-le 8 p rest long) ∙ ap (take 8) e)
+        sym (take-append-drop 8 p)
+        ∙ ap (λ (h : List ℕ). h ++ x) (sym (take-append-le 8 p rest long) ∙ ap (take 8) e)
         in
         let data-is : x ++ rest ≡ bytes = sym (drop-append-le 8 p rest long) ∙ ap (drop 8) e in
         subst (λ (d : List ℕ). Filled (run waiting (sends lent (d ∷ ps))) g (startOf block) bytes) (sym first)

@@ -1,40 +1,34 @@
 -- The parts of reading back, request by request: what each leaves at the sessions of the run. Assumes nothing.
-use Prim.Native.Nat.{ℕ, zero, suc, _+_, _-_, _*_, _≤_, _<_, min}
-use mathlib.Core.Bool.{Bool, true, false, cond, _&&_}
-use mathlib.Core.List.{List, [], _∷_, _++_, append-assoc, append-nil}
-use mathlib.Core.Path.{_≡_, refl, sym, ap, ap₂, _∙_, subst}
+use Prim.Native.Nat.{ℕ, _+_, _≤_, _<_}
+use mathlib.Core.Bool.{true}
+use mathlib.Core.List.{List}
+use mathlib.Core.Path.{_≡_, refl, ap, ap₂, _∙_}
 use native.Mathlib.Omega.{arith}
 use borrow.Author.Tests.{eq-eqb, ne-eqb, le-leb, lt-ltb}
-use lib.Dec.{eqb, leb, ltb}
-use lib.ListN.{length, getD, take, drop, length-append, length-take, length-drop, take-append-drop}
-use lib.Seq.{take-append-seam, take-all, drop-drop}
-use Rattle.flash.specs.Flash.{startOf, nextStart, range, spliced, erased}
+use lib.ListN.{length, getD}
+use Rattle.flash.specs.Flash.{startOf, nextStart, range, erased}
 use Rattle.sums.specs.declared.Sums.{Sums}
 use Rattle.sums.specs.Sum.{refreshed}
 use Rattle.session.specs.Codes.{idle}
-use Rattle.session.specs.Session.{phaseOf, downOf, noDownload, upOf, withUp, appEnd, flashStream}
-use Rattle.session.specs.Rules.{fitOf, splitRule, inApplication}
+use Rattle.session.specs.Session.{noDownload, upOf, withUp, appEnd, flashStream}
+use Rattle.session.specs.Rules.{splitRule, inApplication}
 use Rattle.session.specs.declared.Board.{Board}
 use Rattle.session.specs.declared.Session.{Session}
 use Rattle.session.proofs.Laws.{fit-kept, split-facts, end-in-flash, inside-facts}
-use Rattle.request.specs.declared.Request.{Request}
 use Rattle.request.specs.Request.{allowedOf, wordAt}
-use Rattle.stream.specs.Stream.{nextOf, streamOf}
 use Rattle.stream.proofs.Laws.{four-bytes}
-use Rattle.moves.specs.declared.Answer.{Answer}
-use Rattle.moves.specs.Answers.{Done, Replied, done, leaves}
+use Rattle.moves.specs.Answers.{Done, leaves}
 use Rattle.moves.specs.Moves.{movedTo, toSync, takenOf}
 use Rattle.command.specs.Ready.{Ready}
 use Rattle.command.specs.Download.{longAt, dnloadOf, commandOf, carriedOut, wellFormed, readOf, eraseOf}
 use Rattle.command.proofs.Laws.{long-enough}
-use Rattle.loader.specs.Reply.{answered, entered, polled, getstatusOf}
-use Rattle.loader.specs.Upload.{placeOf, answerOf, uploadEnds, uploadingAt, uploadedOf, uploadOf}
-use Rattle.loader.specs.Step.{withReply, withFlash}
-use Rattle.demands.specs.Calls.{Call, Site, called}
-use Rattle.demands.specs.ReadBack.{Host, ends, asks, Ran, run, dnload, upload, poll, abort, readCommand, eraseCommand, keep, gathers}
-use Rattle.demands.proofs.ReadBackCalls.{siteOf, on-taken, is-yes, is-no, dnload-called, upload-called, poll-called, abort-called}
-use Rattle.demands.proofs.ReadBackSessions.{inState, image, image-streamed, atIdle, atCommand, atUpload, atPiece, atDownload}
-use Rattle.demands.proofs.ReadBackSessions.{idle-fit, command-fit, upload-fit, piece-fit, download-fit}
+use Rattle.loader.specs.Reply.{answered, polled, getstatusOf}
+use Rattle.loader.specs.Step.{withReply}
+use Rattle.demands.specs.Calls.{called}
+use Rattle.demands.specs.ReadBack.{Host, ends, asks, run, dnload, poll, readCommand, eraseCommand}
+use Rattle.demands.proofs.ReadBackCalls.{siteOf, on-taken, is-yes, dnload-called, poll-called}
+use Rattle.demands.proofs.ReadBackSessions.{inState, atIdle, atCommand}
+use Rattle.demands.proofs.ReadBackSessions.{idle-fit}
 
 module _ (s : Session) (f lent : List ℕ) (r : Ready s f) (room : 1024 ≤ length lent) where
   -- a poll
@@ -95,7 +89,9 @@ module _ (board : Board) (block len : ℕ) (sums : Sums) (f : List ℕ) where
   abbrev pub wiped-sums : Sums
   wiped-sums = refreshed sums (erased f block (nextStart len)) (board .a .0) (appEnd board) block (block + nextStart len)
 
-module _ (board : Board) (block len : ℕ) (sums : Sums) (f lent : List ℕ) (split : splitRule board ≡ true) (legal : inApplication board block len ≡ true) (sized : length f ≡ startOf (board .b .0)) (room : 1024 ≤ length lent) where
+module _
+    (board : Board) (block len : ℕ) (sums : Sums) (f lent : List ℕ) (split : splitRule board ≡ true)
+    (legal : inApplication board block len ≡ true) (sized : length f ≡ startOf (board .b .0)) (room : 1024 ≤ length lent) where
   pub erase-called :
       called (siteOf (inState board block len atIdle noDownload 0 sums) f) (dnload lent (eraseCommand block (nextStart len)))
       ≡ leaves (takenOf (inState board block len atCommand noDownload 0 (wiped-sums board block len sums f))) (erased f block (nextStart len)) lent
@@ -106,6 +102,7 @@ module _ (board : Board) (block len : ℕ) (sums : Sums) (f lent : List ℕ) (sp
       let count = nextStart len in
       let the-block : wordAt (eraseCommand block count) 2 ≡ block = omega arith in
       let the-count : wordAt (eraseCommand block count) 4 ≡ count = omega arith in
-      command-called s f lent (record { fit = idle-fit board block len split legal sums; sized = sized }) room (eraseCommand block count) refl refl (omega arith)
+      command-called s f lent (record { fit = idle-fit board block len split legal sums; sized = sized }) room
+      (eraseCommand block count) refl refl (omega arith)
       ∙ ap₂ (λ (b n : ℕ). withReply (eraseOf s f b n) lent) the-block the-count
       ∙ ap (λ (x : Done). withReply x lent) (is-yes _ _ _ (blocks-legal board block len legal))

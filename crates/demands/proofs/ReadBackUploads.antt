@@ -1,40 +1,31 @@
 -- The uploads of reading back: the answers are the stream in pieces of 1,024 bytes, and one shorter that ends it. Assumes nothing.
 use Prim.Native.Nat.{ℕ, zero, suc, _+_, _-_, _*_, _≤_, _<_, min}
-use mathlib.Core.Bool.{Bool, true, false, cond, _&&_}
+use mathlib.Core.Bool.{Bool, true, false, cond}
 use mathlib.Core.List.{List, [], _∷_, _++_, append-assoc, append-nil}
 use mathlib.Core.Path.{_≡_, refl, sym, ap, ap₂, _∙_, subst}
 use native.Mathlib.Omega.{arith}
-use borrow.Author.Tests.{eq-eqb, ne-eqb, le-leb, ltb-true, ltb-false, eqb-true, eqb-false}
-use lib.Dec.{eqb, leb, ltb}
-use lib.ListN.{length, getD, take, drop, length-append, length-take, length-drop, take-append-drop}
+use borrow.Author.Tests.{ne-eqb, ltb-true, ltb-false}
+use lib.Dec.{eqb, ltb}
+use lib.ListN.{length, take, drop, length-take, length-drop, take-append-drop}
 use lib.Seq.{take-append-seam, take-all, drop-drop}
-use Rattle.flash.specs.Flash.{startOf, nextStart, range, spliced, erased}
+use Rattle.flash.specs.Flash.{startOf}
 use Rattle.sums.specs.declared.Sums.{Sums}
-use Rattle.sums.specs.Sum.{refreshed}
-use Rattle.session.specs.Codes.{idle}
-use Rattle.session.specs.Session.{phaseOf, downOf, noDownload, upOf, withUp, appEnd, flashStream}
-use Rattle.session.specs.Rules.{fitOf, splitRule, inApplication}
+use Rattle.session.specs.Session.{noDownload}
+use Rattle.session.specs.Rules.{splitRule, inApplication}
 use Rattle.session.specs.declared.Board.{Board}
 use Rattle.session.specs.declared.Session.{Session}
-use Rattle.session.proofs.Laws.{fit-kept, split-facts, end-in-flash, inside-facts}
 use Rattle.request.specs.declared.Request.{Request}
-use Rattle.request.specs.Request.{allowedOf, wordAt}
+use Rattle.request.specs.Request.{allowedOf}
 use Rattle.stream.specs.Stream.{nextOf, streamOf}
-use Rattle.stream.proofs.Laws.{four-bytes}
-use Rattle.moves.specs.declared.Answer.{Answer}
-use Rattle.moves.specs.Answers.{Done, Replied, done, leaves}
-use Rattle.moves.specs.Moves.{movedTo, toSync, takenOf}
+use Rattle.moves.specs.Answers.{Replied}
 use Rattle.command.specs.Ready.{Ready}
-use Rattle.command.specs.Download.{longAt, dnloadOf, commandOf, carriedOut, wellFormed, readOf, eraseOf}
-use Rattle.command.proofs.Laws.{long-enough}
-use Rattle.loader.specs.Reply.{answered, entered, polled, getstatusOf}
+use Rattle.loader.specs.Reply.{answered}
 use Rattle.loader.specs.Upload.{placeOf, answerOf, uploadEnds, uploadingAt, uploadedOf, uploadOf}
-use Rattle.loader.specs.Step.{withReply, withFlash}
-use Rattle.demands.specs.Calls.{Call, Site, called}
-use Rattle.demands.specs.ReadBack.{Host, ends, asks, Ran, run, dnload, upload, poll, abort, keep, gathers, answersOf}
-use Rattle.demands.proofs.ReadBackCalls.{siteOf, on-taken, is-yes, is-no, dnload-called, upload-called, poll-called, abort-called}
-use Rattle.demands.proofs.ReadBackSessions.{inState, image, image-streamed, atIdle, atCommand, atUpload, atPiece, atDownload}
-use Rattle.demands.proofs.ReadBackSessions.{idle-fit, command-fit, upload-fit, piece-fit, download-fit}
+use Rattle.loader.specs.Step.{withFlash}
+use Rattle.demands.specs.ReadBack.{Host, ends, asks, Ran, run, upload, keep, joined, gathers, answersOf}
+use Rattle.demands.proofs.ReadBackCalls.{siteOf, on-taken, is-no, upload-called}
+use Rattle.demands.proofs.ReadBackSessions.{inState, image, image-streamed, atIdle, atUpload}
+use Rattle.demands.proofs.ReadBackSessions.{idle-fit, upload-fit}
 
 -- answers that make up some bytes: none is empty, none has more than 1,024, and only the last may have fewer
 pub data Pieces : List (List ℕ) → List ℕ → Type 0 where
@@ -43,6 +34,12 @@ pub data Pieces : List (List ℕ) → List ℕ → Type 0 where
       {p rest : List ℕ} {ps : List (List ℕ)} → 0 < length p → length p ≤ 1024 → (0 < length rest → length p ≡ 1024)
       → Pieces ps rest → Pieces (p ∷ ps) (p ++ rest)
 
+pub pieces-joined : {ps : List (List ℕ)} {xs : List ℕ} → Pieces ps xs → joined ps ≡ xs
+unfolding joined
+pieces-joined none = refl
+pieces-joined (more {p} some few full then) = ap (λ (xs : List ℕ). p ++ xs) (pieces-joined then)
+
+-- an answer that the host keeps: behind those that it has, as the last of the stream, and as one of 1,024 bytes
 joins-by : (t : Bool) (got : List (List ℕ)) (a : List ℕ) → cond t got (got ++ (a ∷ [])) ≡ got ++ cond t [] ([] ++ (a ∷ []))
 joins-by true got a = sym (append-nil got)
 joins-by false got a = refl
@@ -85,12 +82,15 @@ module _ (board : Board) (block len : ℕ) (sums : Sums) (f lent : List ℕ) whe
   uploaded-on s p w room go =
       let a = take 1024 (drop p stream) in
       let given : uploadOf s f 1024 lent ≡ answered (inState board block len atUpload noDownload (p + length a) sums) a lent =
-          ap₂ (λ (q : ℕ) (xs : List ℕ). answered (uploadingAt s (q + length (take 1024 (drop q xs)))) (take 1024 (drop q xs)) lent) (w .stands) (w .streams)
-          ∙ ap (λ (x : Session). answered x a lent) (w .goes-on (p + length a))
+      ap₂
+      (λ (q : ℕ) (xs : List ℕ). answered (uploadingAt s (q + length (take 1024 (drop q xs)))) (take 1024 (drop q xs)) lent)
+      (w .stands) (w .streams)
+      ∙ ap (λ (x : Session). answered x a lent) (w .goes-on (p + length a))
       in
       on-taken (siteOf s f) (upload lent) go (length a) _ f _
       (upload-called s f lent (w .ready) room (w .allowed) ∙ ap (λ (x : Replied). withFlash x f) given)
-      ∙ ap (λ (x : List ℕ). run (siteOf (inState board block len atUpload noDownload (p + length a) sums) f) (go x)) (take-append-seam a (drop (length a) lent))
+      ∙ ap (λ (x : List ℕ). run (siteOf (inState board block len atUpload noDownload (p + length a) sums) f) (go x))
+      (take-append-seam a (drop (length a) lent))
 
   -- what the uploads leave: all taken, the session at the stream's end, and the stream in pieces behind what the host had
   pub record Gathered (r : Ran (List (List ℕ))) (got : List (List ℕ)) (xs : List ℕ) : Type 0 where
@@ -100,6 +100,7 @@ module _ (board : Board) (block len : ℕ) (sums : Sums) (f lent : List ℕ) whe
     pub joins : r .got ≡ got ++ parts
     pub pieces : Pieces parts xs
 
+  -- the answer from a place on, and the session that it leaves
   answer : ℕ → List ℕ
   answer p = take 1024 (drop p stream)
 
@@ -163,9 +164,9 @@ module _ (board : Board) (block len : ℕ) (sums : Sums) (f lent : List ℕ) whe
     full-answer r p got full g =
         let a = answer p in
         let rest : a ++ drop (p + length a) stream ≡ drop p stream =
-            ap (λ (xs : List ℕ). a ++ xs) (sym (drop-drop (length a) p stream))
-            ∙ ap (λ (n : ℕ). a ++ drop n (drop p stream)) full
-            ∙ take-append-drop 1024 (drop p stream)
+        ap (λ (xs : List ℕ). a ++ xs) (sym (drop-drop (length a) p stream))
+        ∙ ap (λ (n : ℕ). a ++ drop n (drop p stream)) full
+        ∙ take-append-drop 1024 (drop p stream)
         in
         record {
           stops = g .stops;
@@ -182,8 +183,13 @@ module _ (board : Board) (block len : ℕ) (sums : Sums) (f lent : List ℕ) whe
 
     by-length :
         (t : Bool) (n p : ℕ) (got : List (List ℕ)) → ltb (length (answer p)) 1024 ≡ t → p ≤ 8 + len
-        → (length (answer p) ≡ 1024 → Gathered (run (siteOf (after-answer p) f) (gathers lent n (keep got (answer p)))) (keep got (answer p)) (drop (p + length (answer p)) stream))
-        → Gathered (run (siteOf (after-answer p) f) (cond t (ends (keep got (answer p))) (gathers lent n (keep got (answer p))))) got (drop p stream)
+        → (length (answer p) ≡ 1024
+        → Gathered (run (siteOf (after-answer p) f) (gathers lent n (keep got (answer p)))) (keep got (answer p))
+        (drop (p + length (answer p)) stream))
+        → Gathered
+        (run (siteOf (after-answer p) f) (cond t (ends (keep got (answer p))) (gathers lent n (keep got (answer p)))))
+        got
+        (drop p stream)
     by-length true n p got e h then = last-answer p got h (ltb-true _ _ e)
     by-length false n p got e h then =
         let l = answer-length p in
@@ -198,10 +204,14 @@ module _ (board : Board) (block len : ℕ) (sums : Sums) (f lent : List ℕ) whe
     gathered zero p got s w h enough = absurd (omega arith)
     gathered (suc n) p got s w h enough =
         let l = answer-length p in
-        let go : List ℕ → Host (List (List ℕ)) = λ bytes. cond (ltb (length bytes) 1024) (ends (keep got bytes)) (gathers lent n (keep got bytes)) in
+        let go : List ℕ → Host (List (List ℕ)) =
+        λ bytes. cond (ltb (length bytes) 1024) (ends (keep got bytes)) (gathers lent n (keep got bytes))
+        in
         subst (λ (r : Ran (List (List ℕ))). Gathered r got (drop p stream)) (sym (uploaded-on s p w room go))
         (by-length (ltb (length (answer p)) 1024) n p got refl h
-        (λ full. gathered n (p + length (answer p)) (keep got (answer p)) (after-answer p) (further (p + length (answer p)) (omega arith)) (omega arith) (omega arith)))
+        (λ full.
+        gathered n (p + length (answer p)) (keep got (answer p)) (after-answer p)
+        (further (p + length (answer p)) (omega arith)) (omega arith) (omega arith)))
 
     pub all-read :
         Gathered (run (siteOf (inState board block len atIdle noDownload 0 sums) f) (gathers lent (answersOf (8 + len)) [])) []

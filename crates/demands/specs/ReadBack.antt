@@ -5,12 +5,12 @@ use mathlib.Core.List.{List, [], _∷_, _++_}
 use mathlib.Core.Path.{_≡_}
 use lib.Dec.{eqb, ltb}
 use lib.ListN.{length, take}
-use Rattle.flash.specs.Flash.{blockSize, startOf, nextStart, range, spliced, erased}
+use Rattle.flash.specs.Flash.{startOf, nextStart, range, spliced, erased}
 use Rattle.session.specs.Codes.{idle, downloadIdle}
 use Rattle.session.specs.Session.{downOf}
 use Rattle.session.specs.Rules.{inApplication, fitOf}
 use Rattle.stream.specs.Stream.{bytes2, bytes4}
-use Rattle.command.specs.Download.{read, erase}
+use Rattle.command.specs.Download.{prog, read, erase}
 use Rattle.moves.specs.Answers.{Leaves, answerNumber}
 use Rattle.demands.specs.Calls.{Call, Site, called, next}
 
@@ -67,6 +67,10 @@ readCommand block len = (read ∷ 0 ∷ []) ++ bytes2 block ++ bytes4 len
 unfoldable pub eraseCommand : ℕ → ℕ → List ℕ
 eraseCommand block count = (erase ∷ 0 ∷ []) ++ bytes2 block ++ bytes2 count ++ (0 ∷ 0 ∷ [])
 
+-- the command that it hears at the front of the stream and sends back: PROG with block and length
+unfoldable pub progCommand : ℕ → ℕ → List ℕ
+progCommand block len = (prog ∷ 0 ∷ []) ++ bytes2 block ++ bytes4 len
+
 -- an answer joins those before it, unless it is empty
 unfoldable pub keep : List (List ℕ) → List ℕ → List (List ℕ)
 keep got bytes = cond (eqb (length bytes) 0) got (got ++ (bytes ∷ []))
@@ -76,6 +80,11 @@ unfoldable pub gathers : List ℕ → ℕ → List (List ℕ) → Host (List (Li
 gathers lent zero got = ends got
 gathers lent (suc n) got =
     asks (upload lent) (λ bytes. cond (ltb (length bytes) 1024) (ends (keep got bytes)) (gathers lent n (keep got bytes)))
+
+-- the bytes of some answers, one after another
+unfoldable pub joined : List (List ℕ) → List ℕ
+joined [] = []
+joined (bytes ∷ rest) = bytes ++ joined rest
 
 -- how many answers a stream of so many bytes has, the one that falls short among them
 abbrev pub answersOf : ℕ → ℕ
@@ -117,12 +126,15 @@ pub record MayReadBack (at : Site) (lent : List ℕ) (block len : ℕ) : Type 0 
   pub roomy : 1024 ≤ length lent
   pub legal : inApplication (at .session .board) block len ≡ true
 
--- what is claimed: every call is taken; reading changes no flash; the erase clears the blocks of the range and no other byte; what is
--- sent fills the range with its bytes of the start; then the download has no bytes left to come
+-- what is claimed: every call is taken; the host hears the PROG command and the range's bytes, and that changes no flash; the erase
+-- clears the blocks of the range and no other byte; what is sent fills the range with its bytes of the start, and then the download
+-- has no bytes left to come
 pub record ReadsBack (at : Site) (lent : List ℕ) (block len : ℕ) : Type 0 where
   pub read-taken : hasRead at lent block len .taken ≡ true
   pub clear-taken : hasCleared at lent block len .taken ≡ true
   pub send-taken : hasSent at lent block len .taken ≡ true
+  pub all-heard :
+      joined (hasRead at lent block len .got) ≡ progCommand block len ++ range (at .flash) (startOf block) len
   pub untouched : hasRead at lent block len .site .flash ≡ at .flash
   pub cleared : hasCleared at lent block len .site .flash ≡ erased (at .flash) block (nextStart len)
   pub filled :
@@ -133,6 +145,7 @@ pub record ReadsBack (at : Site) (lent : List ℕ) (block len : ℕ) : Type 0 wh
   pub in-download-idle : hasSent at lent block len .site .session .phase .state .0 ≡ downloadIdle
   pub none-left : hasSent at lent block len .site .session .down ≡ downOf (startOf block + len) 0
 
+-- read-back: wherever it is claimed, it is so
 abbrev pub ReadBack : Type 0
 ReadBack =
     (at : Site) (lent : List ℕ) (block len : ℕ) → MayReadBack at lent block len → ReadsBack at lent block len
