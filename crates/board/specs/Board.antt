@@ -1,0 +1,39 @@
+-- The two calls as a board hears them: numbers for the answers, and the session handed back in place.
+use Prim.Native.Nat.{ℕ}
+use mathlib.Core.List.{List}
+use Rattle.session.specs.declared.Session.{Session}
+use Rattle.moves.specs.Answers.{Leaves, answerNumber}
+use Rattle.moves.specs.declared.Outcome.{Outcome}
+use Rattle.loader.specs.Step.{startOutcome, stepOf}
+use Rattle.board.specs.declared.Reply.{Reply}
+use Rattle.board.specs.declared.Started.{Started}
+
+-- an outcome's answer as its number, with its count of reply bytes
+abbrev pub replyOf : Outcome → Reply
+replyOf o = record { code = answerNumber (o .answer); count = o .count }
+
+-- a start's answer as its number, with its session
+abbrev pub startedBy : Outcome → Started
+startedBy o = record { code = answerNumber (o .answer); session = o .session }
+
+-- a start
+unfoldable pub startedOf : List ℕ → ℕ → ℕ → ℕ → ℕ → Started
+startedOf flash a b part0 part1 = startedBy (startOutcome flash a b part0 part1)
+
+-- all that a request leaves at the board: what the host hears, and the session, the flash and the reply buffer at exit
+pub record Left : Type 0 where
+  pub answer : Reply
+  pub session : Session
+  pub flash : List ℕ
+  pub reply : List ℕ
+
+abbrev pub left : Reply → Session → List ℕ → List ℕ → Left
+left answer session flash reply = record { answer = answer; session = session; flash = flash; reply = reply }
+
+-- what a call leaves, its answer as a number
+abbrev pub numbered : Leaves → Left
+numbered l = left (replyOf (l .outcome)) (l .outcome .session) (l .flash) (l .reply)
+
+-- a request
+unfoldable pub servedOf : Session → List ℕ → List ℕ → List ℕ → List ℕ → Left
+servedOf s flash setup d reply = numbered (stepOf s flash setup d reply)

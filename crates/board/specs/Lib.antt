@@ -1,0 +1,2 @@
+-- What a board that is written in C hears.
+pub mod Board

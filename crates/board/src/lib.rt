@@ -1,0 +1,99 @@
+// The loader as a board written in C calls it: a start, and one request after another over the session that the board keeps.
+// Answers are numbers here, since no enum can be handed over to C. `include/mullirim.h` declares these calls.
+use flash::Block;
+use moves::Answer;
+use session::Session;
+ghost use mathlib.Core.Path.{_≡_};
+ghost use Rattle.moves.specs.Answers.{answerNumber};
+ghost use Rattle.board.specs.Board.{startedOf, left, servedOf};
+
+// The session of a start, with its answer.
+#[repr(C)]
+pub struct Started {
+    pub code: u32,
+    pub session: Session,
+}
+
+// What the host hears: the answer, and how many bytes of the reply buffer are meant.
+#[repr(C)]
+pub struct Reply {
+    pub code: u32,
+    pub count: u32,
+}
+
+// A reply, with the session for the next call.
+#[repr(C)]
+struct Served {
+    answer: Reply,
+    session: Session,
+}
+
+fn number(answer: Answer) -> u32
+    ensures { λ r. ⌜ r ≡ answerNumber answer ⌝ }
+{
+    match answer {
+        Answer::Taken => 0,
+        Answer::Stalled => 1,
+        Answer::Unfit => 2,
+        Answer::Faulted => 3,
+        Answer::ResetAsked => 4,
+    }
+}
+
+// The fresh session of a board whose application starts at block `first` of `blocks`, or answer 2 and a session of zeros.
+#[no_mangle]
+pub extern "C" fn mullirim_start(
+    flash: &[u8],
+    first: u16,
+    blocks: u16,
+    part: u32,
+    klass: u32,
+) -> Started
+    ensures { λ r. ⌜ r ≡ startedOf (now (flash .entry)) first blocks part klass ⌝ }
+{
+    let o = loader::start(
+        flash,
+        Block(first as u32),
+        Block(blocks as u32),
+        part,
+        klass,
+    );
+    let answer = o.answer;
+    let session = o.session;
+    Started {
+        code: number(answer),
+        session: session,
+    }
+}
+
+// One request by value. It is apart from `mullirim_request` so that everything but the two stores is proved with the rest.
+fn serve(session: Session, flash: &mut [u8], setup: &[u8], d: &[u8], reply: &mut [u8]) -> Served
+    ensures { λ r. ⌜ left (r .answer) (r .session) (now (flash .exit)) (now (reply .exit)) ≡ servedOf session (now (flash .entry)) (now (setup .entry)) (now (d .entry)) (now (reply .entry)) ⌝ }
+{
+    let o = loader::step(session, flash, setup, d, reply);
+    let answer = o.answer;
+    let next = o.session;
+    Served {
+        answer: Reply {
+            code: number(answer),
+            count: o.count,
+        },
+        session: next,
+    }
+}
+
+// One request, well formed or not, in any state: the board's session is changed in place.
+#[no_mangle]
+pub extern "C" fn mullirim_request(
+    session: &mut Session,
+    flash: &mut [u8],
+    setup: &[u8],
+    d: &[u8],
+    reply: &mut [u8],
+) -> Reply
+    ensures { λ r. ⌜ left r (now (session .exit)) (now (flash .exit)) (now (reply .exit)) ≡ servedOf (now (session .entry)) (now (flash .entry)) (now (setup .entry)) (now (d .entry)) (now (reply .entry)) ⌝ }
+{
+    let served = serve(*session, flash, setup, d, reply);
+    *session = served.session;
+    served.answer
+}
