@@ -1,5 +1,5 @@
 -- The parts of reading back, request by request: what each leaves at the sessions of the run. Assumes nothing.
-use Prim.Native.Nat.{ℕ, _+_, _≤_, _<_}
+use Prim.Native.Nat.{ℕ, _+_, _^_, _≤_, _<_}
 use mathlib.Core.Bool.{true}
 use mathlib.Core.List.{List}
 use mathlib.Core.Path.{_≡_, refl, ap, ap₂, _∙_}
@@ -46,9 +46,9 @@ module _ (s : Session) (f lent : List ℕ) (r : Ready s f) (room : 1024 ≤ leng
       dnload-called s f lent r room d few (rw (in-idle, ne-eqb (length d) 0 (omega arith)))
       ∙ ap (λ (x : Done). withReply x lent) (is-yes _ _ _ (eq-eqb _ _ in-idle) ∙ is-yes _ _ _ w)
 
--- a range of the application has a 16-bit block number and a 32-bit length
+-- a range of the application isn't empty, its block and the count of its blocks have 16 bits, its length has 32
 module _ (board : Board) (block len : ℕ) (split : splitRule board ≡ true) (legal : inApplication board block len ≡ true) where
-  pub near : (block < 65) × (len ≤ 65536) × (0 < len)
+  pub near : (0 < len) × (block < 65536) × (nextStart len < 65536) × (len < 2 ^ 32)
   near =
       let facts = split-facts board split in
       let ends = end-in-flash board in
