@@ -1,7 +1,7 @@
--- Each way through a call keeps the rules: A and B stay, a state is entered with the status and the fields that its rules ask for, and a
--- range is kept only after it was found to lie in the application. Assumes nothing.
+-- Each way through a call keeps the rules: A and B stay, a state is entered with the status and the fields that its rules ask for,
+-- and a range is kept only after it was found to lie in the application. Assumes nothing.
 use Prim.Native.Nat.{ℕ, _+_, _-_, _≤_}
-use mathlib.Core.Bool.{true, false, false≢true}
+use mathlib.Core.Bool.{Bool, true, false, false≢true}
 use mathlib.Core.List.{List}
 use mathlib.Core.Logic.{⊎-elim}
 use mathlib.Core.Path.{_≡_, refl, sym, ap, _∙_, subst⁻¹}
@@ -72,17 +72,27 @@ module _ (s : Session) (p : Phase) (d : Download) where
 
 -- to idle, manifest sync, and download sync that leads to idle
 idle-fit : (s : Session) → fitOf s ≡ true → fitOf (toIdle s) ≡ true
-idle-fit s e = let k = fit-kept s e in moved-kept s (phaseOf idle ok idle) noDownload (k .split) (k .range) (k .flags) refl refl refl refl refl
+idle-fit s e =
+    let k = fit-kept s e in
+    moved-kept s (phaseOf idle ok idle) noDownload (k .split) (k .range) (k .flags) refl refl refl refl refl
 
 manifest-fit : (s : Session) → fitOf s ≡ true → fitOf (movedTo s (phaseOf manifestSync ok idle) noDownload) ≡ true
-manifest-fit s e = let k = fit-kept s e in moved-kept s (phaseOf manifestSync ok idle) noDownload (k .split) (k .range) (k .flags) refl refl refl refl refl
+manifest-fit s e =
+    let k = fit-kept s e in
+    moved-kept s (phaseOf manifestSync ok idle) noDownload (k .split) (k .range) (k .flags) refl refl refl refl refl
 
-sync-fit : (s : Session) → splitRule (s .board) ≡ true → rangeRule (s .board) (s .up) ≡ true → flagsRule (s .up) ≡ true → fitOf (movedTo s (phaseOf downloadSync ok idle) noDownload) ≡ true
+sync-fit :
+    (s : Session) → splitRule (s .board) ≡ true → rangeRule (s .board) (s .up) ≡ true → flagsRule (s .up) ≡ true
+    → fitOf (movedTo s (phaseOf downloadSync ok idle) noDownload) ≡ true
 sync-fit s split range flags = moved-kept s (phaseOf downloadSync ok idle) noDownload split range flags refl refl refl refl refl
 
 -- to error, with a status of its own
-error-fit : (s : Session) (status : ℕ) → fitOf s ≡ true → statusRule (phaseOf error status idle) ≡ true → fitOf (toError s status) ≡ true
-error-fit s status e h = let k = fit-kept s e in moved-kept s (phaseOf error status idle) noDownload (k .split) (k .range) (k .flags) refl h refl refl refl
+error-fit :
+    (s : Session) (status : ℕ) → fitOf s ≡ true → statusRule (phaseOf error status idle) ≡ true
+    → fitOf (toError s status) ≡ true
+error-fit s status e h =
+    let k = fit-kept s e in
+    moved-kept s (phaseOf error status idle) noDownload (k .split) (k .range) (k .flags) refl h refl refl refl
 
 fault-status : (n : ℕ) → FaultStatus n → statusRule (phaseOf error n idle) ≡ true
 fault-status n (not-erased e) = rw e
@@ -95,11 +105,14 @@ unfolding stallOf
 stall-fit s e = pick (λ t. fitOf t ≡ true) (eqb (s .phase .state .0) error) _ _ (λ _. e) (λ _. error-fit s stalled e refl)
 
 -- to download sync that leads to download idle, with a download that lies in the application
-wrote-fit : (s : Session) (f : List ℕ) (at : ℕ) (bytes : List ℕ) (left : ℕ) → fitOf s ≡ true → Place (s .board) at (length bytes + left) → fitOf (wroteOf s f at bytes left .outcome .session) ≡ true
+wrote-fit :
+    (s : Session) (f : List ℕ) (at : ℕ) (bytes : List ℕ) (left : ℕ) → fitOf s ≡ true
+    → Place (s .board) at (length bytes + left) → fitOf (wroteOf s f at bytes left .outcome .session) ≡ true
 unfolding wroteOf
 wrote-fit s f at bytes left e p =
     let k = fit-kept s e in
-    moved-kept (withSums s _) (phaseOf downloadSync ok downloadIdle) (downOf (at + length bytes) left) (k .split) (k .range) (k .flags) refl refl refl refl
+    moved-kept (withSums s _) (phaseOf downloadSync ok downloadIdle) (downOf (at + length bytes) left) (k .split) (k .range)
+    (k .flags) refl refl refl refl
     (rw (
       le-leb (startOf (s .board .a .0)) (at + length bytes) (omega arith),
       le-leb (at + length bytes) (startOf (appEnd (s .board))) (omega arith),
@@ -128,10 +141,13 @@ unfolding binOf prefixFor
 bin-fit s flag e =
     let k = fit-kept s e in
     let up = upOf (s .up .choice) (prefixFor flag) (s .up .first .0) (s .up .len) 0 in
-    sync-fit (withUp s up) (k .split) (k .range) (flags-of up (choice-of (s .up) (k .flags)) (pick-most (eqb flag 0) (omega arith) (omega arith)))
+    let pre : prefixFor flag ≤ 1 = pick-most (eqb flag 0) (omega arith) (omega arith) in
+    sync-fit (withUp s up) (k .split) (k .range) (flags-of up (choice-of (s .up) (k .flags)) pre)
 
 -- an upload goes on to a place in the stream
-upload-fit : (s : Session) (f : List ℕ) (asked : ℕ) (reply : List ℕ) → Ready s f → fitOf (uploadOf s f asked reply .outcome .session) ≡ true
+upload-fit :
+    (s : Session) (f : List ℕ) (asked : ℕ) (reply : List ℕ) → Ready s f
+    → fitOf (uploadOf s f asked reply .outcome .session) ≡ true
 unfolding uploadOf answered uploadedOf answerOf uploadingAt streamLength
 upload-fit s f asked reply r =
     let k = fit-kept s (r .fit) in
@@ -158,7 +174,11 @@ upload-fit s f asked reply r =
     }))
 
 -- READ's range was found to lie in the application
-read-fit : (s : Session) (block len : ℕ) → fitOf s ≡ true → inApplication (s .board) block len ≡ true → fitOf (movedTo (withUp s (upOf flashStream (s .up .«prefix») block len 0)) (phaseOf downloadSync ok idle) noDownload) ≡ true
+read-fit :
+    (s : Session) (block len : ℕ) → fitOf s ≡ true → inApplication (s .board) block len ≡ true
+    → fitOf
+    (movedTo (withUp s (upOf flashStream (s .up .«prefix») block len 0)) (phaseOf downloadSync ok idle) noDownload)
+    ≡ true
 read-fit s block len e i =
     let k = fit-kept s e in
     let up = upOf flashStream (s .up .«prefix») block len 0 in
@@ -185,7 +205,9 @@ module _ (s : Session) (e : fitOf s ≡ true) where
   not-uploading : (s .phase .state .0 ≡ uploadIdle → ⊥) → (p : Phase) → uploadRule p (s .up) ≡ true
   not-uploading n p = at-start p (s .up) (fit-facts s e .no-upload n)
 
-  to-idle : (s .phase .state .0 ≡ error → ⊥) → (s .phase .state .0 ≡ uploadIdle → ⊥) → running (s .phase) ≡ false → fitOf (withPhase s (phaseOf idle (s .phase .status .0) idle)) ≡ true
+  to-idle :
+      (s .phase .state .0 ≡ error → ⊥) → (s .phase .state .0 ≡ uploadIdle → ⊥) → running (s .phase) ≡ false
+      → fitOf (withPhase s (phaseOf idle (s .phase .status .0) idle)) ≡ true
   to-idle no-error no-upload stopped =
       let k = fit-kept s e in
       let fit = fit-facts s e in
@@ -202,7 +224,9 @@ module _ (s : Session) (e : fitOf s ≡ true) where
         flags = k .flags;
       })
 
-  to-download : s .phase .state .0 ≡ downloadSync → s .phase .after .0 ≡ downloadIdle → fitOf (withPhase s (phaseOf downloadIdle (s .phase .status .0) idle)) ≡ true
+  to-download :
+      s .phase .state .0 ≡ downloadSync → s .phase .after .0 ≡ downloadIdle
+      → fitOf (withPhase s (phaseOf downloadIdle (s .phase .status .0) idle)) ≡ true
   to-download h a =
       let k = fit-kept s e in
       let fit = fit-facts s e in
@@ -220,9 +244,12 @@ module _ (s : Session) (e : fitOf s ≡ true) where
         flags = k .flags;
       })
 
-  to-same : (s .phase .state .0 ≡ downloadSync → ⊥) → fitOf (withPhase s (phaseOf (s .phase .state .0) (s .phase .status .0) idle)) ≡ true
+  to-same :
+      (s .phase .state .0 ≡ downloadSync → ⊥)
+      → fitOf (withPhase s (phaseOf (s .phase .state .0) (s .phase .status .0) idle)) ≡ true
   to-same n =
-      ap (λ (x : ℕ). fitOf (withPhase s (phaseOf (s .phase .state .0) (s .phase .status .0) x))) (sym (fit-facts s e .after-others n)) ∙ e
+      let at : ℕ → Bool = λ x. fitOf (withPhase s (phaseOf (s .phase .state .0) (s .phase .status .0) x)) in
+      ap at (sym (fit-facts s e .after-others n)) ∙ e
 
   pub polled-fit : fitOf (polled s) ≡ true
   unfolding polled

@@ -1,5 +1,5 @@
--- The premises of demand 1 can be met: a flash of two blocks, the second the application's, and a call for each row of the answer table.
--- Assumes nothing.
+-- The premises of demand 1 can be met: a flash of two blocks, the second the application's, and a call for each row of the answer
+-- table. Assumes nothing.
 use Prim.Native.Nat.{ℕ, _≤_}
 use mathlib.Core.Bool.{true, cond}
 use mathlib.Core.List.{List, [], _∷_}

@@ -40,7 +40,9 @@ splice-untouched s f r at bytes p =
     }
 
 -- in state download idle the next bytes lie in the application
-pub piece-place : (s : Session) (f setup : List ℕ) (n : ℕ) → Loads s f setup downloadIdle → n ≤ s .down .left → Place (s .board) (s .down .place .0) n
+pub piece-place :
+    (s : Session) (f setup : List ℕ) (n : ℕ) → Loads s f setup downloadIdle → n ≤ s .down .left
+    → Place (s .board) (s .down .place .0) n
 piece-place s f setup n l h =
     let fit = fit-facts s (l .fit .fit) in
     let r : running (s .phase) ≡ true = rw (l .here) in

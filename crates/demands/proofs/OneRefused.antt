@@ -84,7 +84,9 @@ taken at c l e =
       reset-asked = λ h. absurd (omega arith);
     }
 
-faulted-row : (at : Site) (c : Call) (status : ℕ) → FaultStatus status → Faulted at c (leaves (faultOf (at .session) status) (at .flash) (c .reply))
+faulted-row :
+    (at : Site) (c : Call) (status : ℕ) → FaultStatus status
+    → Faulted at c (leaves (faultOf (at .session) status) (at .flash) (c .reply))
 unfolding faultOf movedTo
 faulted-row at c status h =
     record {
@@ -186,7 +188,9 @@ says-or-not setup =
 
 -- the first test is what it says in words
 module _ (at : Site) (c : Call) where
-  pub prepared-ready : Prepared at c → ready (at .session) (length (at .flash)) (c .setup) (length (c .bytes)) (length (c .reply)) ≡ true
+  pub prepared-ready :
+      Prepared at c
+      → ready (at .session) (length (at .flash)) (c .setup) (length (c .bytes)) (length (c .reply)) ≡ true
   unfolding ready
   prepared-ready p =
       let asked : length (c .bytes) ≡ dataAsked (c .setup) =
@@ -201,7 +205,9 @@ module _ (at : Site) (c : Call) where
         p .rules,
       )
 
-  ready-prepared : ready (at .session) (length (at .flash)) (c .setup) (length (c .bytes)) (length (c .reply)) ≡ true → Prepared at c
+  pub ready-prepared :
+      ready (at .session) (length (at .flash)) (c .setup) (length (c .bytes)) (length (c .reply)) ≡ true
+      → Prepared at c
   unfolding ready
   ready-prepared e =
       let eight = eqb (length (c .setup)) 8 in

@@ -105,7 +105,9 @@ board-stays at c =
     })
 
 -- a call keeps the sums right
-sums-stay : (at : Site) (c : Call) → Summed (at .session) (at .flash) → Right (next at c .session .sums) (next at c .flash) (at .session .board .a .0) (appEnd (at .session .board))
+sums-stay :
+    (at : Site) (c : Call) → Summed (at .session) (at .flash)
+    → Right (next at c .session .sums) (next at c .flash) (at .session .board .a .0) (appEnd (at .session .board))
 unfolding next called wroteOf infoOf binOf movedTo stallOf unfitOf faultOf resetOf freshOf polled getstatusOf getstateOf queryOf answered uploadOf uploadedOf uploadingAt
 sums-stay at c right =
     let s = at .session in

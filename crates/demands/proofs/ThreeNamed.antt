@@ -31,7 +31,7 @@ use Rattle.loader.specs.Step.{freshStart}
 use Rattle.demands.specs.Calls.{Call, Site, called, next, after}
 use Rattle.demands.specs.One.{heard, Allowed}
 use Rattle.demands.specs.Three.{begun, Named, none, NotNamed, progNames, eraseNames, commandNames, isDnload, tookDnload}
-use Rattle.demands.specs.Three.{mayChange, noteOf, notedAfter, OnlyNamed}
+use Rattle.demands.specs.Three.{ChangesNamed, mayChange, noteOf, notedAfter, OnlyNamed}
 use Rattle.demands.proofs.Ways.{pick, every-way}
 use Rattle.demands.proofs.OneOutside.{piece-place}
 use Rattle.demands.proofs.OneFit.{started, entered-sync, entered-manifest, entered-same}
@@ -49,29 +49,30 @@ no-middle false b d e = refl
 
 -- what a call may change and what is noted after it, by what it was
 module _ (noted : Named) (s : Session) (c : Call) (l : Leaves) where
-  took : (state : ℕ) → heard l ≡ 0 → requestOf (c .setup) ≡ Request.Dnload → s .phase .state .0 ≡ state → tookDnload state s c l ≡ true
-  unfolding tookDnload
-  took state h q e = rw (h, q, eq-eqb (s .phase .state .0) state e)
-
   elsewhere : (state : ℕ) → (s .phase .state .0 ≡ state → ⊥) → tookDnload state s c l ≡ false
   unfolding tookDnload
   elsewhere state n = no-right (eqb (heard l) 0 && isDnload (requestOf (c .setup))) _ (ne-eqb _ _ n)
 
-  changes-prog : heard l ≡ 0 → requestOf (c .setup) ≡ Request.Dnload → s .phase .state .0 ≡ 2 → getD (c .bytes) 0 0 ≡ 1 → mayChange noted s c l ≡ progNames (c .bytes)
-  unfolding mayChange commandNames
-  changes-prog h q e k = rw (took 2 h q e, k)
+  module _ (h : heard l ≡ 0) (q : requestOf (c .setup) ≡ Request.Dnload) where
+    took : (state : ℕ) → s .phase .state .0 ≡ state → tookDnload state s c l ≡ true
+    unfolding tookDnload
+    took state e = rw (h, q, eq-eqb (s .phase .state .0) state e)
 
-  changes-erase : heard l ≡ 0 → requestOf (c .setup) ≡ Request.Dnload → s .phase .state .0 ≡ 2 → getD (c .bytes) 0 0 ≡ 4 → mayChange noted s c l ≡ eraseNames (c .bytes)
-  unfolding mayChange commandNames
-  changes-erase h q e k = rw (took 2 h q e, k)
+    changes-prog : s .phase .state .0 ≡ 2 → getD (c .bytes) 0 0 ≡ 1 → mayChange noted s c l ≡ progNames (c .bytes)
+    unfolding mayChange commandNames
+    changes-prog e k = rw (took 2 e, k)
 
-  changes-piece : heard l ≡ 0 → requestOf (c .setup) ≡ Request.Dnload → s .phase .state .0 ≡ 5 → mayChange noted s c l ≡ noted
-  unfolding mayChange
-  changes-piece h q e = rw (elsewhere 2 (λ x. omega arith), took 5 h q e)
+    changes-erase : s .phase .state .0 ≡ 2 → getD (c .bytes) 0 0 ≡ 4 → mayChange noted s c l ≡ eraseNames (c .bytes)
+    unfolding mayChange commandNames
+    changes-erase e k = rw (took 2 e, k)
 
-  notes-prog : heard l ≡ 0 → requestOf (c .setup) ≡ Request.Dnload → s .phase .state .0 ≡ 2 → getD (c .bytes) 0 0 ≡ 1 → noteOf noted s c l ≡ progNames (c .bytes)
-  unfolding noteOf
-  notes-prog h q e k = rw (took 2 h q e, k)
+    changes-piece : s .phase .state .0 ≡ 5 → mayChange noted s c l ≡ noted
+    unfolding mayChange
+    changes-piece e = rw (elsewhere 2 (λ x. omega arith), took 5 e)
+
+    notes-prog : s .phase .state .0 ≡ 2 → getD (c .bytes) 0 0 ≡ 1 → noteOf noted s c l ≡ progNames (c .bytes)
+    unfolding noteOf
+    notes-prog e k = rw (took 2 e, k)
 
   -- anything but a DNLOAD taken in state 2 notes nothing new
   notes-same : tookDnload 2 s c l ≡ false → noteOf noted s c l ≡ noted
@@ -92,9 +93,7 @@ pub record Covers (noted : Named) (s : Session) : Type 0 where
   pub high : running (s .phase) ≡ true → s .down .place .0 + s .down .left ≤ noted .at + noted .size
 
 -- a call changes only what it may
-changes-named :
-    (noted : Named) (at : Site) (c : Call) → Covers noted (at .session) → (k : ℕ)
-    → NotNamed (mayChange noted (at .session) c (called at c)) k → getD (next at c .flash) k 0 ≡ getD (at .flash) k 0
+changes-named : (noted : Named) (at : Site) (c : Call) → Covers noted (at .session) → ChangesNamed noted at c
 unfolding next called wroteOf infoOf binOf stallOf unfitOf faultOf resetOf getstatusOf getstateOf queryOf answered uploadOf erased
 changes-named noted at c covers k =
     let s = at .session in
@@ -251,7 +250,7 @@ unfolding begun freshStart freshOf
 start-stops f a b part0 part1 h = ap (λ (o : Outcome). running (o .session .phase)) (started f a b part0 part1 h)
 
 pub only-named-holds : OnlyNamed
-only-named-holds f a b part0 part1 h calls c k =
+only-named-holds f a b part0 part1 h calls c =
     let at = begun f a b part0 part1 in
     changes-named (notedAfter none at calls) (after at calls) c
-    (covers-after none at calls (stopped none (at .session) (start-stops f a b part0 part1 h))) k
+    (covers-after none at calls (stopped none (at .session) (start-stops f a b part0 part1 h)))

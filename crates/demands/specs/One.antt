@@ -26,8 +26,8 @@ pub record Untouched (board : Board) (f g : List ℕ) : Type 0 where
   pub as-long : length g ≡ length f
   pub as-before : (k : ℕ) → OutsideApp board k → getD g k 0 ≡ getD f k 0
 
--- Outside: whatever the session, fit or not, the flash, the setup, the data and the reply buffer, a call changes no byte outside the
--- application blocks of the session, and not the flash's length
+-- Outside: whatever the session, fit or not, the flash, the setup, the data and the reply buffer, a call changes no byte outside
+-- the application blocks of the session, and not the flash's length
 abbrev pub Outside : Type 0
 Outside = (at : Site) (c : Call) → Untouched (at .session .board) (at .flash) (next at c .flash)
 
@@ -41,8 +41,8 @@ pub record Quiet (at : Site) (c : Call) (l : Leaves) : Type 0 where
   pub flash : l .flash ≡ at .flash
   pub reply : l .reply ≡ c .reply
 
--- t is s gone to state 10 with a status: the state after sync is 2, the download is dropped, the upload is at its stream's first byte;
--- A, B, part numbers, the upload's choice, prefix flag and range, and the sums stay
+-- t is s gone to state 10 with a status: the state after sync is 2, the download is dropped, the upload is at its stream's first
+-- byte; A, B, part numbers, the upload's choice, prefix flag and range, and the sums stay
 pub record InError (s t : Session) (status : ℕ) : Type 0 where
   pub board : t .board ≡ s .board
   pub state : t .phase .state .0 ≡ 10
@@ -81,8 +81,8 @@ pub record Faulted (at : Site) (c : Call) (l : Leaves) : Type 0 where
   pub status : FaultStatus (l .outcome .session .phase .status .0)
   pub in-error : InError (at .session) (l .outcome .session) (l .outcome .session .phase .status .0)
 
--- t is as fresh, with s's A, B, part numbers and sums: state 2, status 0, no download, the flash stream with its prefix over all of the
--- application, from its first byte
+-- t is as fresh, with s's A, B, part numbers and sums: state 2, status 0, no download, the flash stream with its prefix over all of
+-- the application, from its first byte
 pub record AsFresh (s t : Session) : Type 0 where
   pub board : t .board ≡ s .board
   pub state : t .phase .state .0 ≡ 2
@@ -117,8 +117,8 @@ Refused = (at : Site) (c : Call) → Rows at c (called at c)
 abbrev pub SaysDnload : List ℕ → Type 0
 SaysDnload setup = (getD setup 0 0 ≡ 0x21) × (getD setup 1 0 ≡ 1)
 
--- what no unfit call has: 8 setup bytes, room for 1,024 reply bytes, B × 1,024 bytes of flash, wLength data bytes for DNLOAD and none
--- otherwise, a session that keeps its rules
+-- what no unfit call has: 8 setup bytes, room for 1,024 reply bytes, B × 1,024 bytes of flash, wLength data bytes for DNLOAD and
+-- none otherwise, a session that keeps its rules
 pub record Prepared (at : Site) (c : Call) : Type 0 where
   pub setup-bytes : length (c .setup) ≡ 8
   pub room : 1024 ≤ length (c .reply)

@@ -1,6 +1,6 @@
 -- Demand 3: what holds over any history, a start and then any calls.
 use Prim.Native.Nat.{ℕ, _+_, _≤_, _<_}
-use mathlib.Core.Bool.{Bool, true, false, cond, _&&_}
+use mathlib.Core.Bool.{Bool, true, cond, _&&_}
 use mathlib.Core.List.{List, [], _∷_}
 use mathlib.Core.Logic.{_⊎_}
 use mathlib.Core.Path.{_≡_}
@@ -12,10 +12,8 @@ use Rattle.session.specs.Session.{boardOf, appEnd}
 use Rattle.session.specs.Rules.{fitOf}
 use Rattle.session.specs.declared.Board.{Board}
 use Rattle.session.specs.declared.Session.{Session}
-use Rattle.request.specs.Request.{wordAt, requestOf}
+use Rattle.request.specs.Request.{wordAt, requestOf, rowOf}
 use Rattle.request.specs.declared.Request.{Request}
-use Rattle.request.specs.declared.Request.the-variants.{Dnload, Upload, GetStatus, ClrStatus}
-use Rattle.request.specs.declared.Request.the-variants.{GetState, Abort, Query, Nothing}
 use Rattle.moves.specs.Answers.{Leaves}
 use Rattle.command.specs.Download.{longAt}
 use Rattle.loader.specs.Step.{startOutcome}
@@ -26,8 +24,8 @@ use Rattle.demands.specs.One.{Untouched, heard, Allowed}
 unfoldable pub begun : List ℕ → ℕ → ℕ → ℕ → ℕ → Site
 begun f a b part0 part1 = record { session = startOutcome f a b part0 part1 .session; flash = f }
 
--- what a history leaves of a start on flash f: A, B and the part numbers as given, a fit session, sums that are those of the flash as it
--- now is, and every byte outside the application as it was at the start
+-- what a history leaves of a start on flash f: A, B and the part numbers as given, a fit session, sums that are those of the flash
+-- as it now is, and every byte outside the application as it was at the start
 pub record Held (f : List ℕ) (board : Board) (at : Site) : Type 0 where
   pub board-kept : at .session .board ≡ board
   pub fit : fitOf (at .session) ≡ true
@@ -66,22 +64,16 @@ eraseNames d = record { at = startOf (wordAt d 2); size = startOf (wordAt d 4) }
 unfoldable pub commandNames : List ℕ → Named
 commandNames d = cond (eqb (getD d 0 0) 1) (progNames d) (cond (eqb (getD d 0 0) 4) (eraseNames d) none)
 
+-- DNLOAD, the first row of the form table
 abbrev pub isDnload : Request → Bool
-isDnload Dnload = true
-isDnload Upload = false
-isDnload GetStatus = false
-isDnload ClrStatus = false
-isDnload GetState = false
-isDnload Abort = false
-isDnload Query = false
-isDnload Nothing = false
+isDnload r = eqb (rowOf r) 0
 
 -- a DNLOAD that was taken in a state
 unfoldable pub tookDnload : ℕ → Session → Call → Leaves → Bool
 tookDnload state s c l = eqb (heard l) 0 && isDnload (requestOf (c .setup)) && eqb (s .phase .state .0) state
 
--- the bytes that a call may change: in state 2 those that its command names, in state 5 those noted of the PROG that it continues; any
--- other call none
+-- the bytes that a call may change: in state 2 those that its command names, in state 5 those noted of the PROG that it continues;
+-- any other call none
 unfoldable pub mayChange : Named → Session → Call → Leaves → Named
 mayChange noted s c l =
     cond (tookDnload 2 s c l) (commandNames (c .bytes)) (cond (tookDnload 5 s c l) noted none)
@@ -95,14 +87,14 @@ unfoldable pub notedAfter : Named → Site → List Call → Named
 notedAfter noted at [] = noted
 notedAfter noted at (c ∷ cs) = notedAfter (noteOf noted (at .session) c (called at c)) (next at c) cs
 
--- OnlyNamed: after a start and any calls, each call changes no byte but those named by the ERASE or PROG that it carries out, or by the
--- PROG that it continues
+-- a call changes no other bytes than it may
+abbrev pub ChangesNamed : Named → Site → Call → Type 0
+ChangesNamed noted at c =
+    (k : ℕ) → NotNamed (mayChange noted (at .session) c (called at c)) k → getD (next at c .flash) k 0 ≡ getD (at .flash) k 0
+
+-- OnlyNamed: after a start and any calls, each call changes no byte but those named by the ERASE or PROG that it carries out, or by
+-- the PROG that it continues
 abbrev pub OnlyNamed : Type 0
 OnlyNamed =
-    (f : List ℕ) (a b part0 part1 : ℕ) → Allowed f a b → (calls : List Call) (c : Call) (k : ℕ)
-    → NotNamed
-    (mayChange (notedAfter none (begun f a b part0 part1) calls) (after (begun f a b part0 part1) calls .session) c
-    (called (after (begun f a b part0 part1) calls) c))
-    k
-    → getD (next (after (begun f a b part0 part1) calls) c .flash) k 0
-    ≡ getD (after (begun f a b part0 part1) calls .flash) k 0
+    (f : List ℕ) (a b part0 part1 : ℕ) → Allowed f a b → (calls : List Call) (c : Call)
+    → ChangesNamed (notedAfter none (begun f a b part0 part1) calls) (after (begun f a b part0 part1) calls) c
