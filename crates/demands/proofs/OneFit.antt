@@ -277,8 +277,8 @@ stays-fit-holds at c e =
     every-way s f (c .setup) d (c .reply) (λ (l : Leaves). fitOf (l .outcome .session) ≡ true)
     (record {
       unfits = λ _. e;
-      stalls = λ _. stall-fit s e;
-      faults = λ _ status h. error-fit s status e (fault-status status h);
+      stalls = λ _ _. stall-fit s e;
+      faults = λ _ _ status h. error-fit s status e (fault-status status h);
       programs = λ l _ i n.
           let p = ready-place s f (l .fit) (wordAt d 2) (longAt d 4) i in
           wrote-fit s f (startOf (wordAt d 2)) (drop 8 d) (longAt d 4 - length (drop 8 d)) e
@@ -292,7 +292,7 @@ stays-fit-holds at c e =
       erases = λ _ _ _. sync-fit (withSums s _) (k .split) (k .range) (k .flags);
       informs = λ _. info-fit s e;
       bins = λ _. bin-fit s (getD d 1 0) e;
-      resets = λ _. fresh-fit (s .board) (s .sums) (k .split);
+      resets = λ _ _ _. fresh-fit (s .board) (s .sums) (k .split);
       uploads = λ r _. upload-fit s f (wLength (c .setup)) (c .reply) r;
       polls = λ _ _. polled-fit s e;
       tells = λ _ _. e;

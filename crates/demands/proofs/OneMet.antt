@@ -1,7 +1,7 @@
 -- The premises of demand 1 can be met: a flash of two blocks, the second the application's, and a call for each row of the answer
 -- table. Assumes nothing.
 use Prim.Native.Nat.{ℕ, _≤_}
-use mathlib.Core.Bool.{true, cond}
+use mathlib.Core.Bool.{true, false}
 use mathlib.Core.List.{List, [], _∷_}
 use mathlib.Core.Logic.{inl, inr}
 use mathlib.Core.Path.{_≡_, refl, sym, ap, _∙_}
@@ -14,15 +14,14 @@ use Rattle.session.specs.Session.{appEnd, boardOf, freshOf}
 use Rattle.session.specs.Rules.{fitOf}
 use Rattle.session.specs.declared.Board.{Board}
 use Rattle.session.proofs.Laws.{fresh-fit}
-use Rattle.request.specs.Request.{wLength, requestOf, allowedOf, formOf, setupOf}
-use Rattle.moves.specs.Answers.{leaves}
+use Rattle.request.specs.Request.{allowedOf, formOf, setupOf}
 use Rattle.moves.specs.Moves.{stallOf, faultOf, resetOf}
 use Rattle.command.specs.Download.{wellFormed, carriedOut, commandOf, dnloadOf}
-use Rattle.loader.specs.Step.{served, stepOf}
+use Rattle.loader.specs.Step.{served}
 use Rattle.demands.specs.Calls.{Call, Site, called, next}
-use Rattle.demands.specs.One.{OutsideApp, heard, InError, Prepared, Allowed}
+use Rattle.demands.specs.One.{OutsideApp, heard, InError, allowedCall, Prepared, Allowed}
 use Rattle.demands.proofs.OneOutside.{outside-holds}
-use Rattle.demands.proofs.OneRefused.{refused-holds, prepared-ready, unfit-exactly-holds}
+use Rattle.demands.proofs.OneRefused.{refused-holds, unfit-exactly-holds, goes-on}
 use Rattle.demands.proofs.OneFit.{stays-fit-holds}
 
 -- the board: A = 1, B = 2
@@ -119,15 +118,14 @@ reset-prepared =
 pub not-prepared-met : Prepared small noSetup → ⊥
 not-prepared-met p = omega (arith, p .setup-bytes)
 
--- a prepared call goes on to form and state
-goes-on :
-    (at : Site) (c : Call) → Prepared at c
-    → called at c
-    ≡ cond (allowedOf (requestOf (c .setup)) (wLength (c .setup)) (at .session .phase .state .0))
-    (served (requestOf (c .setup)) (at .session) (at .flash) (wLength (c .setup)) (c .bytes) (c .reply))
-    (leaves (stallOf (at .session)) (at .flash) (c .reply))
-unfolding called stepOf
-goes-on at c p = rw (prepared-ready at c p)
+-- a call that is not allowed in its state, and one that is
+pub unallowed-met : allowedCall small clrstatus ≡ false
+unfolding small freshOf formOf setupOf allowedOf
+unallowed-met = refl
+
+pub allowed-call-met : allowedCall small oneByte ≡ true
+unfolding small freshOf formOf setupOf allowedOf
+allowed-call-met = refl
 
 -- each row's answer
 pub stalled-met : heard (called small clrstatus) ≡ 1

@@ -58,8 +58,8 @@ outside-holds at c =
     every-way s f (c .setup) (c .bytes) (c .reply) (λ (l : Leaves). Untouched (s .board) f (l .flash))
     (record {
       unfits = λ _. same (s .board) f;
-      stalls = λ _. same (s .board) f;
-      faults = λ _ _ _. same (s .board) f;
+      stalls = λ _ _. same (s .board) f;
+      faults = λ _ _ _ _. same (s .board) f;
       programs = λ l _ i n.
           let p = ready-place s f (l .fit) (wordAt (c .bytes) 2) (longAt (c .bytes) 4) i in
           splice-untouched s f (l .fit) _ _ (record { low = p .low; high = omega arith });
@@ -72,7 +72,7 @@ outside-holds at c =
           splice-untouched s f (l .fit) _ _ (record { low = p .low; high = rw length-blank (p .high) });
       informs = λ _. same (s .board) f;
       bins = λ _. same (s .board) f;
-      resets = λ _. same (s .board) f;
+      resets = λ _ _ _. same (s .board) f;
       uploads = λ _ _. same (s .board) f;
       polls = λ _ _. same (s .board) f;
       tells = λ _ _. same (s .board) f;

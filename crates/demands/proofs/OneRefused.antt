@@ -15,16 +15,17 @@ use Rattle.session.specs.Session.{wholeUpload, freshOf}
 use Rattle.session.specs.Rules.{fitOf}
 use Rattle.session.specs.declared.Session.{Session}
 use Rattle.session.proofs.Tests.{left-of, right-of}
-use Rattle.request.specs.Request.{wordAt, setupOf, dataAsked}
+use Rattle.request.specs.Request.{wordAt, wLength, requestOf, setupOf, dataAsked}
+use Rattle.request.specs.declared.Request.{Request}
 use Rattle.moves.specs.Answers.{Leaves, leaves}
 use Rattle.moves.specs.Moves.{movedTo, toError, stallOf, unfitOf, faultOf, resetOf}
 use Rattle.command.specs.Download.{wroteOf, infoOf, binOf}
 use Rattle.loader.specs.Reply.{getstatusOf, getstateOf, queryOf, answered}
 use Rattle.loader.specs.Upload.{uploadOf}
-use Rattle.loader.specs.Step.{ready, stepOf}
+use Rattle.loader.specs.Step.{ready, served, stepOf}
 use Rattle.demands.specs.Calls.{Call, Site, called}
 use Rattle.demands.specs.One.{heard, InError, Stalled, FaultStatus, Faulted, AsFresh, Rows, Refused}
-use Rattle.demands.specs.One.{SaysDnload, Prepared, UnfitExactly}
+use Rattle.demands.specs.One.{allowedCall, SaysDnload, Prepared, UnfitExactly, StalledExactly}
 use Rattle.demands.proofs.Ways.{pick, every-way}
 
 -- what a move to state 10 leaves
@@ -46,11 +47,14 @@ errored s status =
       sums = refl;
     }
 
-stalls : (at : Site) (c : Call) → Stalled at c (leaves (stallOf (at .session)) (at .flash) (c .reply))
+stalled-row :
+    (at : Site) (c : Call) → allowedCall at c ≡ false
+    → Stalled at c (leaves (stallOf (at .session)) (at .flash) (c .reply))
 unfolding stallOf
-stalls at c =
+stalled-row at c n =
     let s = at .session in
     record {
+      when = n;
       quiet = record { count = refl; flash = refl; reply = refl };
       in-ten = λ e. rw (eq-eqb (s .phase .state .0) 10 e);
       elsewhere = λ n. rw (ne-eqb (s .phase .state .0) 10 n) (errored s 0x0F);
@@ -85,11 +89,12 @@ taken at c l e =
     }
 
 faulted-row :
-    (at : Site) (c : Call) (status : ℕ) → FaultStatus status
+    (at : Site) (c : Call) → requestOf (c .setup) ≡ Request.Dnload → (status : ℕ) → FaultStatus status
     → Faulted at c (leaves (faultOf (at .session) status) (at .flash) (c .reply))
 unfolding faultOf movedTo
-faulted-row at c status h =
+faulted-row at c q status h =
     record {
+      when = q;
       quiet = record { count = refl; flash = refl; reply = refl };
       status = h;
       in-error = errored (at .session) status;
@@ -108,18 +113,18 @@ refused-holds at c =
             faulted = λ h. absurd (omega arith);
             reset-asked = λ h. absurd (omega arith);
           };
-      stalls = λ _.
+      stalls = λ _ n.
           record {
-            stalled = λ _. stalls at c;
+            stalled = λ _. stalled-row at c n;
             unfit = λ h. absurd (omega arith);
             faulted = λ h. absurd (omega arith);
             reset-asked = λ h. absurd (omega arith);
           };
-      faults = λ _ status h.
+      faults = λ _ q status h.
           record {
             stalled = λ h. absurd (omega arith);
             unfit = λ h. absurd (omega arith);
-            faulted = λ _. faulted-row at c status h;
+            faulted = λ _. faulted-row at c q status h;
             reset-asked = λ h. absurd (omega arith);
           };
       programs = λ _ _ _ _. taken at c _ refl;
@@ -130,13 +135,17 @@ refused-holds at c =
       erases = λ _ _ _. taken at c _ refl;
       informs = λ _. taken at c _ refl;
       bins = λ _. taken at c _ refl;
-      resets = λ _.
+      resets = λ l n k.
           record {
             stalled = λ h. absurd (omega arith);
             unfit = λ h. absurd (omega arith);
             faulted = λ h. absurd (omega arith);
             reset-asked = λ _.
-                record { quiet = record { count = refl; flash = refl; reply = refl }; as-fresh = freshened s };
+                record {
+                  when = record { asked = l .asked; in-two = l .here; eight = n; number = k };
+                  quiet = record { count = refl; flash = refl; reply = refl };
+                  as-fresh = freshened s;
+                };
           };
       uploads = λ _ _. taken at c _ refl;
       polls = λ _ _. taken at c _ refl;
@@ -241,8 +250,8 @@ module _ (at : Site) (c : Call) where
       every-way (at .session) (at .flash) (c .setup) (c .bytes) (c .reply) (λ (l : Leaves). heard l ≡ 2 → ⊥)
       (record {
         unfits = λ e _. false≢true (sym e ∙ prepared-ready p);
-        stalls = λ _ h. omega arith;
-        faults = λ _ _ _ h. omega arith;
+        stalls = λ _ _ h. omega arith;
+        faults = λ _ _ _ _ h. omega arith;
         programs = λ _ _ _ _ h. omega arith;
         pieces = λ _ _ h. omega arith;
         closes = λ _ h. omega arith;
@@ -251,7 +260,7 @@ module _ (at : Site) (c : Call) where
         erases = λ _ _ _ h. omega arith;
         informs = λ _ h. omega arith;
         bins = λ _ h. omega arith;
-        resets = λ _ h. omega arith;
+        resets = λ _ _ _ h. omega arith;
         uploads = λ _ _ h. omega arith;
         polls = λ _ _ h. omega arith;
         tells = λ _ _ h. omega arith;
@@ -261,3 +270,24 @@ module _ (at : Site) (c : Call) where
 
 pub unfit-exactly-holds : UnfitExactly
 unfit-exactly-holds = record { unprepared = unprepared-unfit; prepared = prepared-served }
+
+-- a prepared call goes on to form and state
+pub goes-on :
+    (at : Site) (c : Call) → Prepared at c
+    → called at c
+    ≡ cond (allowedCall at c)
+    (served (requestOf (c .setup)) (at .session) (at .flash) (wLength (c .setup)) (c .bytes) (c .reply))
+    (leaves (stallOf (at .session)) (at .flash) (c .reply))
+unfolding called stepOf
+goes-on at c p = rw (prepared-ready at c p)
+
+unallowed-stalls : (at : Site) (c : Call) → Prepared at c → allowedCall at c ≡ false → heard (called at c) ≡ 1
+unfolding stallOf
+unallowed-stalls at c p n = ap heard (goes-on at c p) ∙ rw n
+
+pub stalled-exactly-holds : StalledExactly
+stalled-exactly-holds =
+    record {
+      not-allowed = unallowed-stalls;
+      allowed = λ at c a h. false≢true (sym (refused-holds at c .stalled h .when) ∙ a);
+    }

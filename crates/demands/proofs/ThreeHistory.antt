@@ -86,8 +86,8 @@ board-stays at c =
     every-way s (at .flash) (c .setup) (c .bytes) (c .reply) (λ (l : Leaves). l .outcome .session .board ≡ s .board)
     (record {
       unfits = λ _. refl;
-      stalls = λ _. pick (λ (t : Session). t .board ≡ s .board) (eqb (s .phase .state .0) 10) _ _ (λ _. refl) (λ _. refl);
-      faults = λ _ _ _. refl;
+      stalls = λ _ _. pick (λ (t : Session). t .board ≡ s .board) (eqb (s .phase .state .0) 10) _ _ (λ _. refl) (λ _. refl);
+      faults = λ _ _ _ _. refl;
       programs = λ _ _ _ _. refl;
       pieces = λ _ _. refl;
       closes = λ _. refl;
@@ -96,7 +96,7 @@ board-stays at c =
       erases = λ _ _ _. refl;
       informs = λ _. refl;
       bins = λ _. refl;
-      resets = λ _. refl;
+      resets = λ _ _ _. refl;
       uploads = λ _ _. pick (λ (t : Session). t .board ≡ s .board) (uploadEnds _ _) _ _ (λ _. refl) (λ _. refl);
       polls = λ _ _. refl;
       tells = λ _ _. refl;
@@ -118,8 +118,8 @@ sums-stay at c right =
     (λ (l : Leaves). Right (l .outcome .session .sums) (l .flash) (s .board .a .0) (appEnd (s .board)))
     (record {
       unfits = λ _. right;
-      stalls = λ _. pick kept (eqb (s .phase .state .0) 10) _ _ (λ _. right) (λ _. right);
-      faults = λ _ _ _. right;
+      stalls = λ _ _. pick kept (eqb (s .phase .state .0) 10) _ _ (λ _. right) (λ _. right);
+      faults = λ _ _ _ _. right;
       programs = λ l _ i n.
           let p = ready-place s f (l .fit) (wordAt d 2) (longAt d 4) i in
           written-right s f (l .fit) right (startOf (wordAt d 2)) (drop 8 d) (record { low = p .low; high = omega arith });
@@ -130,7 +130,7 @@ sums-stay at c right =
       erases = λ l _ i. erased-right s f (l .fit) right (wordAt d 2) (wordAt d 4) i;
       informs = λ _. right;
       bins = λ _. right;
-      resets = λ _. right;
+      resets = λ _ _ _. right;
       uploads = λ _ _. pick kept (uploadEnds _ _) _ _ (λ _. right) (λ _. right);
       polls = λ _ _. right;
       tells = λ _ _. right;

@@ -103,8 +103,8 @@ changes-named noted at c covers k =
     (λ (l : Leaves). NotNamed (mayChange noted s c l) k → getD (l .flash) k 0 ≡ getD f k 0)
     (record {
       unfits = λ _ _. refl;
-      stalls = λ _ _. refl;
-      faults = λ _ _ _ _. refl;
+      stalls = λ _ _ _. refl;
+      faults = λ _ _ _ _ _. refl;
       programs = λ l p i n o.
           let w = ready-range s f (l .fit) (wordAt d 2) (longAt d 4) i in
           let out : NotNamed (progNames d) k =
@@ -135,7 +135,7 @@ changes-named noted at c covers k =
           (⊎-elim (λ lt. inl lt) (λ ge. inr (omega arith)) out);
       informs = λ _ _. refl;
       bins = λ _ _. refl;
-      resets = λ _ _. refl;
+      resets = λ _ _ _ _. refl;
       uploads = λ _ _ _. refl;
       polls = λ _ _ _. refl;
       tells = λ _ _ _. refl;
@@ -205,8 +205,8 @@ covers-next noted at c covers =
     every-way s f (c .setup) d (c .reply) (λ (l : Leaves). Covers (noteOf noted s c l) (l .outcome .session))
     (record {
       unfits = λ _. same _ (untaken noted s c _ (λ (h : _≡_ {A = ℕ} 2 0). omega arith));
-      stalls = λ _. stopped _ _ (stall-stops s);
-      faults = λ _ _ _. stopped _ _ refl;
+      stalls = λ _ _. stopped _ _ (stall-stops s);
+      faults = λ _ _ _ _. stopped _ _ refl;
       programs = λ l p i n.
           covers-as _ _ _ (notes-prog noted s c _ refl (l .asked) (l .here) p)
           (wrote-covers (progNames d) s f (startOf (wordAt d 2)) (drop 8 d) (longAt d 4 - length (drop 8 d)) (omega arith)
@@ -224,7 +224,7 @@ covers-next noted at c covers =
       erases = λ _ _ _. stopped _ _ refl;
       informs = λ _. stopped _ _ refl;
       bins = λ _. stopped _ _ refl;
-      resets = λ _. stopped _ _ refl;
+      resets = λ _ _ _. stopped _ _ refl;
       uploads = λ _ _. stopped _ _ (upload-stops s _ _);
       polls = λ _ q.
           covers-as _ _ _ (notes-same noted s c _ (undnload noted s c _ (rw q)))

@@ -1,11 +1,12 @@
 -- The ways through a call: what holds of each of them holds of the call. Every demand goes by these cases, so that the tests of the
 -- step are taken apart once. Assumes nothing.
 use Prim.Native.Nat.{ℕ, _+_, _-_, _≤_}
-use mathlib.Core.Bool.{Bool, true, false, cond}
+use mathlib.Core.Bool.{Bool, true, false, cond, _&&_, _||_, false≢true}
 use mathlib.Core.List.{List}
 use mathlib.Core.Logic.{⊎-elim}
 use mathlib.Core.Path.{_≡_, refl}
-use borrow.Author.Tests.{eqb-true, eqb-false, leb-true}
+use native.Mathlib.Omega.{arith}
+use borrow.Author.Tests.{eqb-true, eqb-false, ne-eqb, leb-true}
 use lib.Dec.{eqb, leb}
 use lib.ListN.{length, getD, drop}
 use Rattle.flash.specs.Flash.{startOf, erased}
@@ -14,12 +15,13 @@ use Rattle.session.specs.Codes.{idle, downloadIdle, manifestSync, ok, checkEras
 use Rattle.session.specs.Session.{appEnd, phaseOf, noDownload, upOf, flashStream, withUp, withSums}
 use Rattle.session.specs.Rules.{inApplication}
 use Rattle.session.specs.declared.Session.{Session}
+use Rattle.session.proofs.Tests.{left-of, right-of, unless}
 use Rattle.request.specs.Request.{wordAt, wLength, requestOf, allowedOf}
 use Rattle.request.specs.declared.Request.{Request}
 use Rattle.moves.specs.Answers.{Leaves, Done, done, leaves}
 use Rattle.moves.specs.Moves.{movedTo, toIdle, toSync, takenOf, stallOf, unfitOf, faultOf, resetOf}
 use Rattle.command.specs.Ready.{Ready}
-use Rattle.command.specs.Download.{longAt, prog, read, check, erase, info, bin, allErased, wroteOf, progOf, readOf, checkOf}
+use Rattle.command.specs.Download.{longAt, prog, read, check, erase, info, bin, reset, allErased, wroteOf, progOf, readOf, checkOf}
 use Rattle.command.specs.Download.{eraseOf, infoOf, binOf, wellFormed, carriedOut, commandOf, closedOf, pieceOf, dnloadOf}
 use Rattle.loader.specs.Reply.{getstatusOf, getstateOf, queryOf}
 use Rattle.loader.specs.Upload.{uploadOf}
@@ -38,6 +40,30 @@ pub record Loads (s : Session) (f setup : List ℕ) (state : ℕ) : Type 0 where
   pub asked : requestOf setup ≡ Request.Dnload
   pub here : s .phase .state .0 ≡ state
 
+-- a well-formed command that is none of the six before it is RESET, of eight bytes
+module _ (d : List ℕ) (g : wellFormed d ≡ true) where
+  others-eight : (getD d 0 0 ≡ prog → ⊥) → length d ≡ 8
+  unfolding wellFormed
+  others-eight n =
+      let known = leb 8 (length d) && leb prog (getD d 0 0) && leb (getD d 0 0) reset in
+      let alone = eqb (getD d 0 0) prog || eqb (length d) 8 in
+      eqb-true _ _ (unless (eqb (getD d 0 0) prog) (eqb (length d) 8) (right-of known alone g) (ne-eqb _ _ n))
+
+  known-command : (1 ≤ getD d 0 0) × (getD d 0 0 ≤ 7)
+  unfolding wellFormed
+  known-command =
+      let eight = leb 8 (length d) in
+      let some = leb prog (getD d 0 0) in
+      let few = leb (getD d 0 0) reset in
+      let alone = eqb (getD d 0 0) prog || eqb (length d) 8 in
+      let l = left-of (eight && some && few) alone g in
+      (leb-true _ _ (right-of eight some (left-of (eight && some) few l)), leb-true _ _ (right-of (eight && some) few l))
+
+  last-reset :
+      (getD d 0 0 ≡ prog → ⊥) → (getD d 0 0 ≡ read → ⊥) → (getD d 0 0 ≡ check → ⊥) → (getD d 0 0 ≡ erase → ⊥)
+      → (getD d 0 0 ≡ info → ⊥) → (getD d 0 0 ≡ bin → ⊥) → getD d 0 0 ≡ reset
+  last-reset n1 n2 n3 n4 n5 n6 = let k = known-command in omega arith
+
 -- what an erase of blocks leaves
 abbrev pub wipedOf : Session → List ℕ → ℕ → ℕ → Done
 wipedOf s f block count =
@@ -53,8 +79,12 @@ wipedOf s f block count =
 -- what P must hold of: each way's outcome, with what was found on the way
 pub record Ways (s : Session) (f setup d reply : List ℕ) (P : Leaves → Type 0) : Type 0 where
   pub unfits : ready s (length f) setup (length d) (length reply) ≡ false → P (leaves (unfitOf s) f reply)
-  pub stalls : Ready s f → P (leaves (stallOf s) f reply)
-  pub faults : Ready s f → (status : ℕ) → FaultStatus status → P (leaves (faultOf s status) f reply)
+  pub stalls :
+      Ready s f → allowedOf (requestOf setup) (wLength setup) (s .phase .state .0) ≡ false
+      → P (leaves (stallOf s) f reply)
+  pub faults :
+      Ready s f → requestOf setup ≡ Request.Dnload → (status : ℕ) → FaultStatus status
+      → P (leaves (faultOf s status) f reply)
   pub programs :
       Loads s f setup idle → getD d 0 0 ≡ prog → inApplication (s .board) (wordAt d 2) (longAt d 4) ≡ true
       → length (drop 8 d) ≤ longAt d 4
@@ -77,7 +107,7 @@ pub record Ways (s : Session) (f setup d reply : List ℕ) (P : Leaves → Type 
       → P (withReply (wipedOf s f (wordAt d 2) (wordAt d 4)) reply)
   pub informs : Loads s f setup idle → P (leaves (infoOf s) f reply)
   pub bins : Loads s f setup idle → P (leaves (binOf s (getD d 1 0)) f reply)
-  pub resets : Loads s f setup idle → P (leaves (resetOf s) f reply)
+  pub resets : Loads s f setup idle → length d ≡ 8 → getD d 0 0 ≡ reset → P (leaves (resetOf s) f reply)
   pub uploads :
       Ready s f → requestOf setup ≡ Request.Upload → P (withFlash (uploadOf s f (wLength setup) reply) f)
   pub polls : Ready s f → requestOf setup ≡ Request.GetStatus → P (withFlash (getstatusOf s reply) f)
@@ -97,15 +127,15 @@ module _ (s : Session) (f setup d reply : List ℕ) (P : Leaves → Type 0) (w :
       pick AfterDone (leb (length (drop 8 d)) (longAt d 4)) _ _
       (λ n.
       pick AfterDone (allErased f (wordAt d 2) (longAt d 4)) _ _ (λ b. w .programs l c i (leb-true _ _ n))
-      (λ b. w .faults (l .fit) checkErased (not-erased refl)))
-      (λ n. w .faults (l .fit) address (out-of-range refl)))
-      (λ i. w .faults (l .fit) address (out-of-range refl))
+      (λ b. w .faults (l .fit) (l .asked) checkErased (not-erased refl)))
+      (λ n. w .faults (l .fit) (l .asked) address (out-of-range refl)))
+      (λ i. w .faults (l .fit) (l .asked) address (out-of-range refl))
 
   read-ways : Loads s f setup idle → P (leaves (readOf s (wordAt d 2) (longAt d 4)) f reply)
   unfolding readOf
   read-ways l =
       pick (λ o. P (leaves o f reply)) (inApplication (s .board) (wordAt d 2) (longAt d 4)) _ _ (λ i. w .reads l i)
-      (λ i. w .faults (l .fit) address (out-of-range refl))
+      (λ i. w .faults (l .fit) (l .asked) address (out-of-range refl))
 
   check-ways : Loads s f setup idle → P (leaves (checkOf s f (wordAt d 2) (longAt d 4)) f reply)
   unfolding checkOf
@@ -113,39 +143,44 @@ module _ (s : Session) (f setup d reply : List ℕ) (P : Leaves → Type 0) (w :
       pick (λ o. P (leaves o f reply)) (inApplication (s .board) (wordAt d 2) (longAt d 4)) _ _
       (λ i.
       pick (λ o. P (leaves o f reply)) (allErased f (wordAt d 2) (longAt d 4)) _ _ (λ b. w .checks l)
-      (λ b. w .faults (l .fit) checkErased (not-erased refl)))
-      (λ i. w .faults (l .fit) address (out-of-range refl))
+      (λ b. w .faults (l .fit) (l .asked) checkErased (not-erased refl)))
+      (λ i. w .faults (l .fit) (l .asked) address (out-of-range refl))
 
   erase-ways : Loads s f setup idle → getD d 0 0 ≡ erase → AfterDone (eraseOf s f (wordAt d 2) (wordAt d 4))
   unfolding AfterDone eraseOf
   erase-ways l c =
       pick AfterDone (inApplication (s .board) (wordAt d 2) (startOf (wordAt d 4))) _ _ (λ i. w .erases l c i)
-      (λ i. w .faults (l .fit) address (out-of-range refl))
+      (λ i. w .faults (l .fit) (l .asked) address (out-of-range refl))
 
-  carried-ways : Loads s f setup idle → AfterDone (carriedOut (getD d 0 0) s f d)
+  carried-ways : Loads s f setup idle → wellFormed d ≡ true → AfterDone (carriedOut (getD d 0 0) s f d)
   unfolding AfterDone carriedOut
-  carried-ways l =
+  carried-ways l g =
       pick AfterDone (eqb (getD d 0 0) prog) _ _ (λ e. prog-ways l (eqb-true _ _ e))
-      (λ _.
+      (λ n1.
       pick AfterDone (eqb (getD d 0 0) read) _ _ (λ _. read-ways l)
-      (λ _.
+      (λ n2.
       pick AfterDone (eqb (getD d 0 0) check) _ _ (λ _. check-ways l)
-      (λ _.
+      (λ n3.
       pick AfterDone (eqb (getD d 0 0) erase) _ _ (λ e. erase-ways l (eqb-true _ _ e))
-      (λ _.
+      (λ n4.
       pick AfterDone (eqb (getD d 0 0) info) _ _ (λ _. w .informs l)
-      (λ _. pick AfterDone (eqb (getD d 0 0) bin) _ _ (λ _. w .bins l) (λ _. w .resets l))))))
+      (λ n5.
+      pick AfterDone (eqb (getD d 0 0) bin) _ _ (λ _. w .bins l)
+      (λ n6.
+      w .resets l (others-eight d g (eqb-false _ _ n1))
+      (last-reset d g (eqb-false _ _ n1) (eqb-false _ _ n2) (eqb-false _ _ n3) (eqb-false _ _ n4) (eqb-false _ _ n5)
+      (eqb-false _ _ n6))))))))
 
   command-ways : Loads s f setup idle → AfterDone (commandOf s f d)
   unfolding AfterDone commandOf
   command-ways l =
-      pick AfterDone (wellFormed d) _ _ (λ _. carried-ways l) (λ _. w .faults (l .fit) vendor (bad-command refl))
+      pick AfterDone (wellFormed d) _ _ (λ g. carried-ways l g) (λ _. w .faults (l .fit) (l .asked) vendor (bad-command refl))
 
   close-ways : Loads s f setup downloadIdle → P (leaves (closedOf s) f reply)
   unfolding closedOf
   close-ways l =
       pick (λ o. P (leaves o f reply)) (eqb (s .down .left) 0) _ _ (λ _. w .closes l)
-      (λ _. w .faults (l .fit) notDone (bytes-missing refl))
+      (λ _. w .faults (l .fit) (l .asked) notDone (bytes-missing refl))
 
   piece-ways : Loads s f setup downloadIdle → AfterDone (pieceOf s f d)
   unfolding AfterDone pieceOf
@@ -153,7 +188,7 @@ module _ (s : Session) (f setup d reply : List ℕ) (P : Leaves → Type 0) (w :
       pick AfterDone (eqb (length d) 0) _ _ (λ _. close-ways l)
       (λ _.
       pick AfterDone (leb (length d) (s .down .left)) _ _ (λ n. w .pieces l (leb-true _ _ n))
-      (λ _. w .faults (l .fit) address (out-of-range refl)))
+      (λ _. w .faults (l .fit) (l .asked) address (out-of-range refl)))
 
   dnload-ways :
       Ready s f → requestOf setup ≡ Request.Dnload
@@ -169,7 +204,7 @@ module _ (s : Session) (f setup d reply : List ℕ) (P : Leaves → Type 0) (w :
   served-ways :
       (q : Request) → requestOf setup ≡ q → Ready s f → allowedOf q (wLength setup) (s .phase .state .0) ≡ true
       → P (served q s f (wLength setup) d reply)
-  unfolding served AfterDone
+  unfolding served AfterDone allowedOf
   served-ways Request.Dnload e r a = dnload-ways r e a
   served-ways Request.Upload e r a = w .uploads r e
   served-ways Request.GetStatus e r a = w .polls r e
@@ -177,7 +212,7 @@ module _ (s : Session) (f setup d reply : List ℕ) (P : Leaves → Type 0) (w :
   served-ways Request.GetState e r a = w .tells r e
   served-ways Request.Abort e r a = w .idles r
   served-ways Request.Query e r a = w .queries r e
-  served-ways Request.Nothing e r a = w .stalls r
+  served-ways Request.Nothing e r a = absurd (false≢true a)
 
   pub every-way : P (stepOf s f setup d reply)
   unfolding stepOf
@@ -186,5 +221,5 @@ module _ (s : Session) (f setup d reply : List ℕ) (P : Leaves → Type 0) (w :
       (λ r.
       let fit = ready-fit s f setup (length d) (length reply) r in
       pick P (allowedOf (requestOf setup) (wLength setup) (s .phase .state .0)) _ _
-      (λ a. served-ways (requestOf setup) refl fit a) (λ _. w .stalls fit))
+      (λ a. served-ways (requestOf setup) refl fit a) (λ n. w .stalls fit n))
       (λ r. w .unfits r)

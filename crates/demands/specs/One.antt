@@ -1,6 +1,6 @@
 -- Demand 1: no call touches flash that it must not, a refused call leaves what the paper says, and a fit session stays fit.
 use Prim.Native.Nat.{ℕ, _-_, _≤_, _<_}
-use mathlib.Core.Bool.{true}
+use mathlib.Core.Bool.{Bool, true, false}
 use mathlib.Core.List.{List}
 use mathlib.Core.Logic.{_⊎_}
 use mathlib.Core.Path.{_≡_}
@@ -11,7 +11,8 @@ use Rattle.session.specs.Session.{appEnd, zerosOf}
 use Rattle.session.specs.Rules.{fitOf}
 use Rattle.session.specs.declared.Board.{Board}
 use Rattle.session.specs.declared.Session.{Session}
-use Rattle.request.specs.Request.{wordAt}
+use Rattle.request.specs.Request.{wordAt, wLength, requestOf, allowedOf}
+use Rattle.request.specs.declared.Request.{Request}
 use Rattle.moves.specs.declared.Outcome.{Outcome}
 use Rattle.moves.specs.Answers.{Leaves, answerNumber}
 use Rattle.loader.specs.Step.{startOutcome}
@@ -57,8 +58,13 @@ pub record InError (s t : Session) (status : ℕ) : Type 0 where
   pub up-place : t .up .place ≡ 0
   pub sums : t .sums ≡ s .sums
 
--- row 1, stalled: state 10, status 0x0F; in state 10 nothing changes
+-- whether the setup has the form of a request that the session's state allows; a setup of no form is allowed in none
+abbrev pub allowedCall : Site → Call → Bool
+allowedCall at c = allowedOf (requestOf (c .setup)) (wLength (c .setup)) (at .session .phase .state .0)
+
+-- row 1, stalled: wrong form, or not allowed in this state; state 10, status 0x0F; in state 10 nothing changes
 pub record Stalled (at : Site) (c : Call) (l : Leaves) : Type 0 where
+  pub when : allowedCall at c ≡ false
   pub quiet : Quiet at c l
   pub in-ten : at .session .phase .state .0 ≡ 10 → l .outcome .session ≡ at .session
   pub elsewhere : (at .session .phase .state .0 ≡ 10 → ⊥) → InError (at .session) (l .outcome .session) 0x0F
@@ -75,8 +81,9 @@ pub data FaultStatus (n : ℕ) : Type 0 where
   bytes-missing : n ≡ 0x09 → FaultStatus n
   bad-command : n ≡ 0x0B → FaultStatus n
 
--- row 3, faulted: state 10, with a status of a fault
+-- row 3, faulted: a download; state 10, with a status of a fault
 pub record Faulted (at : Site) (c : Call) (l : Leaves) : Type 0 where
+  pub when : requestOf (c .setup) ≡ Request.Dnload
   pub quiet : Quiet at c l
   pub status : FaultStatus (l .outcome .session .phase .status .0)
   pub in-error : InError (at .session) (l .outcome .session) (l .outcome .session .phase .status .0)
@@ -97,8 +104,16 @@ pub record AsFresh (s t : Session) : Type 0 where
   pub up-place : t .up .place ≡ 0
   pub sums : t .sums ≡ s .sums
 
--- row 4, reset asked: as fresh
+-- a DNLOAD in state 2 of the eight bytes of RESET, number 7
+pub record ResetCommand (at : Site) (c : Call) : Type 0 where
+  pub asked : requestOf (c .setup) ≡ Request.Dnload
+  pub in-two : at .session .phase .state .0 ≡ 2
+  pub eight : length (c .bytes) ≡ 8
+  pub number : getD (c .bytes) 0 0 ≡ 7
+
+-- row 4, reset asked: RESET command; as fresh
 pub record ResetAsked (at : Site) (c : Call) (l : Leaves) : Type 0 where
+  pub when : ResetCommand at c
   pub quiet : Quiet at c l
   pub as-fresh : AsFresh (at .session) (l .outcome .session)
 
@@ -117,7 +132,7 @@ Refused = (at : Site) (c : Call) → Rows at c (called at c)
 abbrev pub SaysDnload : List ℕ → Type 0
 SaysDnload setup = (getD setup 0 0 ≡ 0x21) × (getD setup 1 0 ≡ 1)
 
--- what no unfit call has: 8 setup bytes, room for 1,024 reply bytes, B × 1,024 bytes of flash, wLength data bytes for DNLOAD and
+-- a call that is prepared: 8 setup bytes, room for 1,024 reply bytes, B × 1,024 bytes of flash, wLength data bytes for DNLOAD and
 -- none otherwise, a session that keeps its rules
 pub record Prepared (at : Site) (c : Call) : Type 0 where
   pub setup-bytes : length (c .setup) ≡ 8
@@ -131,6 +146,11 @@ pub record Prepared (at : Site) (c : Call) : Type 0 where
 pub record UnfitExactly : Type 0 where
   pub unprepared : (at : Site) (c : Call) → (Prepared at c → ⊥) → heard (called at c) ≡ 2
   pub prepared : (at : Site) (c : Call) → Prepared at c → heard (called at c) ≡ 2 → ⊥
+
+-- StalledExactly: of the prepared calls those are stalled that are not allowed, and no other call is
+pub record StalledExactly : Type 0 where
+  pub not-allowed : (at : Site) (c : Call) → Prepared at c → allowedCall at c ≡ false → heard (called at c) ≡ 1
+  pub allowed : (at : Site) (c : Call) → allowedCall at c ≡ true → heard (called at c) ≡ 1 → ⊥
 
 -- StaysFit: a fit session is handed back fit, whatever the call
 abbrev pub StaysFit : Type 0
