@@ -1,10 +1,8 @@
 // The loader as a board written in C calls it: a start, and one request after another over the session that the board keeps.
 // Answers are numbers here, since no enum can be handed over to C. `include/mullirim.h` declares these calls.
 use flash::Block;
-use moves::Answer;
 use session::Session;
 ghost use mathlib.Core.Path.{_≡_};
-ghost use Rattle.moves.specs.Answers.{answerNumber};
 ghost use Rattle.board.specs.Board.{startedOf, left, servedOf};
 
 // The session of a start, with its answer.
@@ -28,18 +26,6 @@ struct Served {
     session: Session,
 }
 
-fn number(answer: Answer) -> u32
-    ensures { λ r. ⌜ r ≡ answerNumber answer ⌝ }
-{
-    match answer {
-        Answer::Taken => 0,
-        Answer::Stalled => 1,
-        Answer::Unfit => 2,
-        Answer::Faulted => 3,
-        Answer::ResetAsked => 4,
-    }
-}
-
 // The fresh session of a board whose application starts at block `first` of `blocks`, or answer 2 and a session of zeros.
 #[no_mangle]
 pub extern "C" fn mullirim_start(
@@ -61,7 +47,7 @@ pub extern "C" fn mullirim_start(
     let answer = o.answer;
     let session = o.session;
     Started {
-        code: number(answer),
+        code: moves::number(answer),
         session: session,
     }
 }
@@ -75,7 +61,7 @@ fn serve(session: Session, flash: &mut [u8], setup: &[u8], d: &[u8], reply: &mut
     let next = o.session;
     Served {
         answer: Reply {
-            code: number(answer),
+            code: moves::number(answer),
             count: o.count,
         },
         session: next,

@@ -41,24 +41,11 @@ const BIN: u8 = 6;
 
 const RESET: u8 = 7;
 
-fn wide(byte: u8) -> u32
-    ensures { λ r. ⌜ r ≡ byte ⌝ }
-{
-    byte as u32
-}
-
-fn word(bytes: &[u8], at: usize) -> u32
-    requires { ⌜ at + 1 < length (now bytes) ⌝ }
-    ensures { λ r. ⌜ (r ≡ wordAt (now (bytes .entry)) at) × (r < 65536) ⌝ }
-{
-    wide(bytes[at]) + wide(bytes[at + 1]) * 256
-}
-
 fn long(bytes: &[u8], at: usize) -> u32
     requires { ⌜ at + 3 < length (now bytes) ⌝ }
     ensures { λ r. ⌜ r ≡ longAt (now (bytes .entry)) at ⌝ }
 {
-    word(bytes, at) + word(bytes, at + 2) * 65536
+    request::word(bytes, at) + request::word(bytes, at + 2) * 65536
 }
 
 fn erased(flash: &[u8], block: Block, len: u32) -> bool
@@ -221,13 +208,13 @@ fn carry_out(s: Session, flash: &mut [u8], d: &[u8]) -> Outcome
     ensures { λ r. ⌜ done r (now (flash .exit)) ≡ carriedOut (getD (now (d .entry)) 0 0) s (now (flash .entry)) (now (d .entry)) ⌝ }
 {
     let code = d[0];
-    let block = Block(word(d, 2));
+    let block = Block(request::word(d, 2));
     let len = long(d, 4);
     match code {
         PROG => prog(s, flash, block, len, &d[8..]),
         READ => read(s, block, len),
         CHECK => check(s, flash, block, len),
-        ERASE => erase(s, flash, block, word(d, 4)),
+        ERASE => erase(s, flash, block, request::word(d, 4)),
         INFO => info(s),
         BIN => bin(s, d[1]),
         _ => moves::reset(s),

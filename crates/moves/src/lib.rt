@@ -8,6 +8,7 @@ ghost use mathlib.Core.Path.{_≡_};
 ghost use mathlib.Core.Bool.{true};
 ghost use Rattle.session.specs.Session.{phaseOf, downOf};
 ghost use Rattle.session.specs.Rules.{fitOf};
+ghost use Rattle.moves.specs.Answers.{answerNumber};
 ghost use Rattle.moves.specs.Moves.{movedTo, toIdle, toError, toSync, takenOf, stallOf, unfitOf, faultOf, resetOf};
 
 // What the host hears.
@@ -24,6 +25,19 @@ pub struct Outcome {
     pub answer: Answer,
     pub count: u32,
     pub session: Session,
+}
+
+// The number that the host hears for an answer.
+pub fn number(answer: Answer) -> u32
+    ensures { λ r. ⌜ r ≡ answerNumber answer ⌝ }
+{
+    match answer {
+        Answer::Taken => 0,
+        Answer::Stalled => 1,
+        Answer::Unfit => 2,
+        Answer::Faulted => 3,
+        Answer::ResetAsked => 4,
+    }
 }
 
 // The session in another state than upload idle: an upload that ran is over.

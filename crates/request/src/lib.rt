@@ -48,11 +48,12 @@ fn wide(byte: u8) -> u32
     byte as u32
 }
 
-fn word(setup: &[u8], at: usize) -> u32
-    requires { ⌜ at + 1 < length (now setup) ⌝ }
-    ensures { λ r. ⌜ r ≡ wordAt (now (setup .entry)) at ⌝ }
+// The 16-bit number at a place, low byte first.
+pub fn word(bytes: &[u8], at: usize) -> u32
+    requires { ⌜ at + 1 < length (now bytes) ⌝ }
+    ensures { λ r. ⌜ (r ≡ wordAt (now (bytes .entry)) at) × (r < 65536) ⌝ }
 {
-    wide(setup[at]) + wide(setup[at + 1]) * 256
+    wide(bytes[at]) + wide(bytes[at + 1]) * 256
 }
 
 // What isn't 8 bytes has no parts: zeros have the form of no request.

@@ -1,10 +1,8 @@
 // What is written of a call: its answer in numbers, and the sums of all that it left.
 use libc::STDOUT_FILENO;
-use moves::Answer;
 use moves::Outcome;
 use sums::MOST;
 ghost use mathlib.Core.Path.{_≡_};
-ghost use Rattle.moves.specs.Answers.{answerNumber};
 ghost use Rattle.crc.specs.Crc.{crcOf};
 ghost use Rattle.stream.specs.Stream.{bytes4};
 ghost use Rattle.script.specs.Turn.{sumBytes, lineOf};
@@ -14,7 +12,7 @@ const START: u32 = 0xFFFF_FFFF;
 
 // The last three are the sums of the kept block sums, of the whole reply buffer and of the flash.
 pub struct Line {
-    pub answer: u8,
+    pub answer: u32,
     pub count: u32,
     pub state: u8,
     pub status: u8,
@@ -22,18 +20,6 @@ pub struct Line {
     pub sums: u32,
     pub reply: u32,
     pub flash: u32,
-}
-
-fn number(answer: Answer) -> u8
-    ensures { λ r. ⌜ r ≡ answerNumber answer ⌝ }
-{
-    match answer {
-        Answer::Taken => 0,
-        Answer::Stalled => 1,
-        Answer::Unfit => 2,
-        Answer::Faulted => 3,
-        Answer::ResetAsked => 4,
-    }
 }
 
 fn low4(n: u32) -> [u8; 4]
@@ -68,7 +54,7 @@ pub fn line_of(outcome: Outcome, reply: &[u8], flash: &[u8]) -> Line
     let sums = outcome.session.sums;
     let block = sums.block;
     Line {
-        answer: number(answer),
+        answer: moves::number(answer),
         count: outcome.count,
         state: outcome.session.phase.state.0,
         status: outcome.session.phase.status.0,
@@ -90,7 +76,7 @@ fn show_hex(n: u32, after: &[u8]) {
 }
 
 pub fn show(line: Line) {
-    show_decimal(line.answer as u32);
+    show_decimal(line.answer);
     show_decimal(line.count);
     show_decimal(line.state as u32);
     show_decimal(line.status as u32);
@@ -103,6 +89,6 @@ pub fn show(line: Line) {
 pub fn show_start(begun: Outcome) {
     let answer = begun.answer;
     io::write_all(STDOUT_FILENO, b"start ");
-    show_decimal(number(answer) as u32);
+    show_decimal(moves::number(answer));
     show_hex(begun.session.sums.whole, b"\n");
 }

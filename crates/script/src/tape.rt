@@ -4,7 +4,6 @@ use flash::ERASED;
 ghost use Prim.Native.Nat.{_+_, _≤_, _<_};
 ghost use mathlib.Core.Path.{_≡_};
 ghost use lib.ListN.{length};
-ghost use Rattle.request.specs.Request.{wordAt};
 ghost use Rattle.script.specs.Tape.{headOf, recordOf, firstByte, firstFlash};
 
 // The bytes of a head.
@@ -30,23 +29,14 @@ fn wide(byte: u8) -> u32
     byte as u32
 }
 
-// The 16-bit number at a place.
-fn word(script: &[u8], at: usize) -> u32
-    requires { ⌜ at + 1 < length (now script) ⌝ }
-    ensures { λ r. ⌜ r ≡ wordAt (now (script .entry)) at ⌝ }
-    ensures { λ r. ⌜ r < 65536 ⌝ }
-{
-    wide(script[at]) + wide(script[at + 1]) * 256
-}
-
 pub fn read_head(script: &[u8]) -> Head
     requires { ⌜ 10 ≤ length (now script) ⌝ }
     ensures { λ r. ⌜ r ≡ headOf (now (script .entry)) ⌝ }
 {
     let a = script[0];
     let b = script[1];
-    let part0 = word(script, 2) + word(script, 4) * 65536;
-    let part1 = word(script, 6) + word(script, 8) * 65536;
+    let part0 = request::word(script, 2) + request::word(script, 4) * 65536;
+    let part1 = request::word(script, 6) + request::word(script, 8) * 65536;
     Head {
         a: a,
         b: b,
@@ -66,7 +56,7 @@ pub fn next_record(rest: &[u8]) -> Record
     if rest.len() < ends + 2 {
         return Record::End;
     }
-    let next = ends + 2 + word(rest, ends) as usize;
+    let next = ends + 2 + request::word(rest, ends) as usize;
     if rest.len() < next {
         return Record::End;
     }

@@ -1,6 +1,7 @@
 -- Two bytes make at most 65,535.
-use Prim.Native.Nat.{_+_}
+use Prim.Native.Nat.{ℕ, _+_, _*_}
 use native.Mathlib.Omega.{arith}
+use mathlib.Core.Path.{ap₂}
 use borrow.Author.Needs.{needs}
 use Rattle.request.proofs.word.Statement.{statement}
 use Rattle.request.proofs.word.Tie as tie
@@ -32,7 +33,11 @@ add-result c =
     omega (arith, first .shared-slice-known2 .given at, c .before .shared-slice-known3 .given (at + 1))
 
 returns : tie.Need-returns
-returns c = search needs
+returns c =
+    let s = c .before .before .before .before .before in (
+      ap₂ (λ (x y : ℕ). x + y * 256) (c .before .before .wide .ensures) (c .wide2 .ensures),
+      omega (arith, c .before .shared-slice-known3 .given (s .args .at), c .before .shared-slice-known3 .given (s .args .at + 1)),
+    )
 
 pub word-spec : {M : Type 1} → statement M
 word-spec =
