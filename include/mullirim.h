@@ -12,7 +12,7 @@
  *  - what is written (session, flash, reply) overlaps with nothing else that the same call is lent;
  *  - nobody else writes any of it while a call runs, nor the flash and the session between two calls.
  *    A session that somebody else wrote is refused (answer 2) if it breaks its rules, and else served as it stands: a smaller
- *    `first` opens blocks that the start had kept shut, and sums that are wrong stay wrong. No byte beyond what was lent is touched.
+ *    `first` opens blocks that the start had kept shut, and wrong sums may stay wrong. No byte beyond what was lent is touched.
  */
 #ifndef MULLIRIM_H
 #define MULLIRIM_H
