@@ -52,7 +52,7 @@ pub extern "C" fn mullirim_start(
     }
 }
 
-// One request by value. It is apart from `mullirim_request` so that everything but the two stores is proved with the rest.
+// One request by value. It is apart from `mullirim_request`, whose proof is by hand, so that all but the store is proved as elsewhere.
 fn serve(session: Session, flash: &mut [u8], setup: &[u8], d: &[u8], reply: &mut [u8]) -> Served
     ensures { λ r. ⌜ left (r .answer) (r .session) (now (flash .exit)) (now (reply .exit)) ≡ servedOf session (now (flash .entry)) (now (setup .entry)) (now (d .entry)) (now (reply .entry)) ⌝ }
 {
