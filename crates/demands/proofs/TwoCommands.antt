@@ -1,8 +1,8 @@
 -- The commands that change no flash, and the faults in their order: what each definition says once its tests are told. Assumes nothing.
 use Prim.Native.Nat.{ℕ, _+_, _-_, _*_, _≤_, _<_}
 use mathlib.Core.Bool.{Bool, true, false}
-use mathlib.Core.List.{List, []}
-use mathlib.Core.Logic.{_⊎_, inl, inr}
+use mathlib.Core.List.{[]}
+use mathlib.Core.Logic.{inl, inr}
 use mathlib.Core.Path.{_≡_, refl, ap, _∙_}
 use native.Mathlib.Omega.{arith}
 use lib.ListN.{length, getD, drop, length-drop}
@@ -13,10 +13,10 @@ use Rattle.session.specs.Rules.{inApplication}
 use Rattle.session.specs.Session.{appEnd, wholeUpload, freshOf}
 use Rattle.request.specs.declared.Request.{Request}
 use Rattle.moves.specs.declared.Answer.{Answer}
-use Rattle.moves.specs.Answers.{leaves, done}
+use Rattle.moves.specs.Answers.{done}
 use Rattle.moves.specs.Moves.{movedTo, faultOf, resetOf}
 use Rattle.command.specs.Download.{progOf, readOf, checkOf, eraseOf, infoOf, prefixFor, binOf, carriedOut, pieceOf}
-use Rattle.demands.specs.Calls.{Call, Site, called}
+use Rattle.demands.specs.Calls.{Call, Site}
 use Rattle.demands.specs.Two.{Asks, Moves}
 use Rattle.demands.specs.TwoCommands.{Commanded, Named, Counted, Legal, Blank, NotBlank, Chooses, NoCommand, Commands}
 use Rattle.demands.proofs.Bytes.{bytes-erased, not-erased}

@@ -1,29 +1,26 @@
 -- Each row of the request table: what the definition of its request says, once the state is known. Assumes nothing.
 use Prim.Native.Nat.{ℕ, _+_, _-_, _≤_, _<_, min}
-use mathlib.Core.Bool.{Bool, true, false}
-use mathlib.Core.List.{List, [], _∷_, _++_}
+use mathlib.Core.List.{[], _∷_, _++_}
 use mathlib.Core.Logic.{_⊎_, inl, inr}
 use mathlib.Core.Path.{_≡_, refl, sym, ap, ap₂, _∙_}
 use native.Mathlib.Omega.{arith}
 use lib.ListN.{length, drop}
 use borrow.Author.Tests.{eq-eqb, ne-eqb, lt-ltb, le-ltb}
-use Rattle.session.specs.Codes.{idle, manifestSync, error, ok, notDone, stalled}
-use Rattle.session.specs.Session.{phaseOf, downOf, noDownload, upOf, withPhase, streamLength}
+use Rattle.session.specs.Session.{phaseOf, withPhase, streamLength}
 use Rattle.session.specs.declared.Session.{Session}
 use Rattle.session.proofs.Laws.{fit-facts, end-in-flash}
 use Rattle.request.specs.declared.Request.{Request}
-use Rattle.stream.specs.Stream.{nextOf, streamOf}
+use Rattle.stream.specs.Stream.{nextOf}
 use Rattle.stream.proofs.Laws.{next-length}
 use Rattle.moves.specs.declared.Answer.{Answer}
-use Rattle.moves.specs.declared.Outcome.{Outcome}
-use Rattle.moves.specs.Answers.{Leaves, Done, Replied, answerNumber, outcome, leaves, done}
-use Rattle.moves.specs.Moves.{movedTo, toIdle, takenOf, faultOf, stallOf}
+use Rattle.moves.specs.Answers.{outcome, leaves}
+use Rattle.moves.specs.Moves.{faultOf, stallOf}
 use Rattle.command.specs.Download.{pieceOf, closedOf}
 use Rattle.loader.specs.Reply.{answered, entered, polled, pollTime, getstatusOf, getstateOf, queryOf}
 use Rattle.loader.specs.Upload.{placeOf, answerOf, uploadEnds, uploadingAt, uploadedOf, uploadOf}
-use Rattle.loader.specs.Step.{served, withReply, withFlash}
+use Rattle.loader.specs.Step.{served, withFlash}
 use Rattle.demands.specs.Calls.{Call, Site, called}
-use Rattle.demands.specs.Two.{Sound, Asks, Refused, Answers, Enters, Unchanged, Moves, Reports, StartsAt, nextBytes, Uploads, Rows}
+use Rattle.demands.specs.Two.{Sound, Asks, Refused, Unchanged, Moves, Reports, StartsAt, nextBytes, Uploads, Rows}
 use Rattle.demands.proofs.TwoForms.{asks-served, asks-stalled, asks-brings}
 use Rattle.demands.proofs.TwoOutcomes.{so-answers, so-session, so-flash, so-enters, so-unchanged, so-moves}
 use Rattle.demands.proofs.TwoDownloads.{piece-leaves}

@@ -8,11 +8,9 @@ use lib.ListN.{length, getD, take, drop}
 use Rattle.flash.specs.Flash.{startOf}
 use Rattle.session.specs.Session.{downOf, upOf, streamLength}
 use Rattle.session.specs.Rules.{fitOf}
-use Rattle.session.specs.declared.Session.{Session}
 use Rattle.request.specs.Request.{wordAt, dataAsked}
 use Rattle.request.specs.declared.Request.{Request}
 use Rattle.stream.specs.Stream.{streamOf}
-use Rattle.command.specs.Download.{longAt}
 use Rattle.moves.specs.Answers.{answerNumber}
 use Rattle.demands.specs.Calls.{Call, Site, called}
 

@@ -1,6 +1,6 @@
 -- Demand 2, the commands: what a DNLOAD with data does in state 2 and in state 5, and the faults in their order.
 use Prim.Native.Nat.{ℕ, _+_, _-_, _*_, _≤_, _<_}
-use mathlib.Core.List.{List, [], _∷_}
+use mathlib.Core.List.{List, []}
 use mathlib.Core.Logic.{_⊎_}
 use mathlib.Core.Path.{_≡_}
 use lib.ListN.{length, getD, drop}
