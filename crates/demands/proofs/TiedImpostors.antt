@@ -67,7 +67,7 @@ stalls-not : Keeps stallsAll → ⊥
 unfolding stallOf
 stalls-not k =
     let e = ap (λ (l : Leaves). answerNumber (l .outcome .answer)) (at-call stallsAll k (small 2 0 0 0) state-call) in
-    omega (arith, e ∙ Rows-hold .getstate (small 2 0 0 0) state-call getstate-met .answers .answer)
+    omega (arith, e ∙ Rows-hold (small 2 0 0 0) state-call .getstate getstate-met .answers .answer)
 
 module _ (bytes : List ℕ) (k : Keeps (singleReply bytes)) where
   counts : (at : Site) (c : Call) → length bytes ≡ called at c .outcome .count
@@ -76,8 +76,8 @@ module _ (bytes : List ℕ) (k : Keeps (singleReply bytes)) where
 
   replies-not : ⊥
   replies-not =
-      let one = counts (small 2 0 0 0) state-call ∙ Rows-hold .getstate (small 2 0 0 0) state-call getstate-met .answers .count in
-      let four = counts (small 10 0x0F 0 0) query-call ∙ Rows-hold .query (small 10 0x0F 0 0) query-call query-met .answers .count in
+      let one = counts (small 2 0 0 0) state-call ∙ Rows-hold (small 2 0 0 0) state-call .getstate getstate-met .answers .count in
+      let four = counts (small 10 0x0F 0 0) query-call ∙ Rows-hold (small 10 0x0F 0 0) query-call .query query-met .answers .count in
       omega arith
 
 nothing-not : Keeps doesNothing → ⊥
@@ -144,8 +144,8 @@ module _ (invented : ℕ → ℕ) (k : Keeps (inventsCount invented)) where
       let at = placed state 0 0 0 place in
       let asks = upload-asks state place fit in
       ap (λ (l : Leaves). l .outcome .count) (at-call (inventsCount invented) k at upload-call)
-      ∙ Rows-hold .upload-ends at upload-call 1000 place asks starts (omega arith) .answers .count
-      ∙ Rows-hold .upload-count at upload-call 1000 place asks starts
+      ∙ Rows-hold at upload-call .upload-ends 1000 place asks starts (omega arith) .answers .count
+      ∙ Rows-hold at upload-call .upload-count 1000 place asks starts
 
   invents-not : ⊥
   unfolding fitOf streamLength appEnd

@@ -157,21 +157,21 @@ module _ (at : Site) (c : Call) (block len n : ℕ) (k : Commanded at c 1 n) whe
       ))
 
 pub Commands-hold : Commands
-Commands-hold =
+Commands-hold at c =
     record {
-      read = read-done;
-      check = check-done;
-      info = info-done;
-      bin-off = bin-off;
-      bin-on = bin-on;
-      reset = reset-done;
-      no-command = no-command;
-      prog-range = prog-range;
-      read-range = read-range;
-      check-range = check-range;
-      erase-range = erase-range;
-      prog-data = prog-data;
-      piece-data = piece-data;
-      prog-unerased = prog-unerased;
-      check-unerased = check-unerased;
+      read = read-done at c;
+      check = check-done at c;
+      info = info-done at c;
+      bin-off = bin-off at c;
+      bin-on = bin-on at c;
+      reset = reset-done at c;
+      no-command = no-command at c;
+      prog-range = prog-range at c;
+      read-range = read-range at c;
+      check-range = check-range at c;
+      erase-range = erase-range at c;
+      prog-data = prog-data at c;
+      piece-data = piece-data at c;
+      prog-unerased = prog-unerased at c;
+      check-unerased = check-unerased at c;
     }
