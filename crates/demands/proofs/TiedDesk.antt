@@ -2,12 +2,12 @@
 -- Assumes nothing.
 use Prim.Native.Nat.{ℕ, _+_, _≤_}
 use mathlib.Core.Bool.{true, false}
-use mathlib.Core.List.{List, [], _∷_, _++_}
+use mathlib.Core.List.{List, [], _∷_}
 use mathlib.Core.Path.{_≡_, refl, sym, ap, subst, _∙_}
 use native.Mathlib.Omega.{arith}
-use lib.ListN.{length, drop, getD}
+use lib.ListN.{length, getD}
 use borrow.Author.Tests.{eq-eqb}
-use Rattle.flash.specs.Flash.{startOf, spliced, blank}
+use Rattle.flash.specs.Flash.{startOf, blank}
 use Rattle.flash.proofs.Laws.{length-blank, spliced-length}
 use Rattle.sums.specs.Sum.{refreshed, freshSums}
 use Rattle.sums.specs.declared.Sums.{Sums}
@@ -24,7 +24,7 @@ use Rattle.loader.specs.Step.{startable, freshStart, startOutcome, served}
 use Rattle.demands.specs.Calls.{Call, Site, called, next, after}
 use Rattle.demands.specs.Two.{Sound}
 use Rattle.demands.specs.Tied.{Case, Meets, Expected, All, Desk, freshSite, getStatus, eraseAll, wiped, marred, progOne, progZero, seven, close, case, deskCases}
-use Rattle.demands.proofs.Bytes.{erased-length, erased-byte, erased-part, not-erased, spliced-none, spliced-byte}
+use Rattle.demands.proofs.Bytes.{erased-length, erased-part, not-erased, spliced-none, spliced-byte}
 use Rattle.demands.proofs.TwoLaws.{sound-served, sound-stalled, next-from}
 
 -- an example from where its calls lead and from what its own call leaves there

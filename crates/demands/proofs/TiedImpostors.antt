@@ -1,32 +1,29 @@
 -- No impostor keeps the promise: demand 2's tables, ERASE, PROG and the pieces reject all but the last, and the CRC that one.
 -- Assumes nothing.
-use Prim.Native.Nat.{ℕ, _+_, _-_, _≤_, _<_, min}
-use mathlib.Core.Bool.{Bool, true, cond, _&&_}
+use Prim.Native.Nat.{ℕ, _+_, _-_, _≤_, min}
+use mathlib.Core.Bool.{true, cond}
 use mathlib.Core.List.{List, [], _∷_, _++_}
-use mathlib.Core.Logic.{_⊎_, inl, inr}
+use mathlib.Core.Logic.{inl, inr}
 use mathlib.Core.Path.{_≡_, refl, sym, ap, ap₂, _∙_}
 use native.Mathlib.Omega.{arith}
 use lib.Bits.{bitXor, xor-self}
 use lib.Dec.{eqb}
 use lib.ListN.{length, getD, take, drop}
 use lib.Seq.{take-add, drop-drop}
-use borrow.Author.Tests.{eq-eqb}
 use Rattle.crc.specs.Crc.{start, bitStep, bitSteps, byteStep, crcFrom, crcOf}
 use Rattle.crc.proofs.Bits.{xor-swap}
 use Rattle.crc.proofs.Laws.{crc-append, bits-xor}
-use Rattle.flash.specs.Flash.{startOf, range, spliced, blank}
+use Rattle.flash.specs.Flash.{range, spliced, blank}
 use Rattle.flash.proofs.Laws.{length-blank, spliced-from, spliced-apart}
 use Rattle.sums.specs.Sum.{blocksOf, wholeSum, refreshed}
 use Rattle.sums.specs.declared.Sums.{Sums}
 use Rattle.session.specs.Session.{appEnd, streamLength}
 use Rattle.session.specs.Rules.{fitOf}
-use Rattle.session.specs.declared.Session.{Session}
 use Rattle.request.specs.Request.{setupOf, dataAsked}
 use Rattle.request.specs.declared.Request.{Request}
 use Rattle.moves.specs.Answers.{Leaves, answerNumber}
 use Rattle.moves.specs.Moves.{stallOf, movedTo}
 use Rattle.command.specs.Download.{sumsAfter, wroteOf}
-use Rattle.loader.specs.Step.{stepOf}
 use Rattle.demands.specs.Calls.{Call, Site, called}
 use Rattle.demands.specs.Two.{Asks, StartsAt}
 use Rattle.demands.specs.Two.Form.{upload}
@@ -70,7 +67,7 @@ stalls-not : Keeps stallsAll → ⊥
 unfolding stallOf
 stalls-not k =
     let e = ap (λ (l : Leaves). answerNumber (l .outcome .answer)) (at-call stallsAll k (small 2 0 0 0) state-call) in
-    omega (arith, e ∙ Rows-hold .getstate (small 2 0 0 0) state-call getstate-met .answers .answer)
+    omega (arith, e ∙ Rows-hold (small 2 0 0 0) state-call .getstate getstate-met .answers .answer)
 
 module _ (bytes : List ℕ) (k : Keeps (singleReply bytes)) where
   counts : (at : Site) (c : Call) → length bytes ≡ called at c .outcome .count
@@ -79,8 +76,8 @@ module _ (bytes : List ℕ) (k : Keeps (singleReply bytes)) where
 
   replies-not : ⊥
   replies-not =
-      let one = counts (small 2 0 0 0) state-call ∙ Rows-hold .getstate (small 2 0 0 0) state-call getstate-met .answers .count in
-      let four = counts (small 10 0x0F 0 0) query-call ∙ Rows-hold .query (small 10 0x0F 0 0) query-call query-met .answers .count in
+      let one = counts (small 2 0 0 0) state-call ∙ Rows-hold (small 2 0 0 0) state-call .getstate getstate-met .answers .count in
+      let four = counts (small 10 0x0F 0 0) query-call ∙ Rows-hold (small 10 0x0F 0 0) query-call .query query-met .answers .count in
       omega arith
 
 nothing-not : Keeps doesNothing → ⊥
@@ -147,8 +144,8 @@ module _ (invented : ℕ → ℕ) (k : Keeps (inventsCount invented)) where
       let at = placed state 0 0 0 place in
       let asks = upload-asks state place fit in
       ap (λ (l : Leaves). l .outcome .count) (at-call (inventsCount invented) k at upload-call)
-      ∙ Rows-hold .upload-ends at upload-call 1000 place asks starts (omega arith) .answers .count
-      ∙ Rows-hold .upload-count at upload-call 1000 place asks starts
+      ∙ Rows-hold at upload-call .upload-ends 1000 place asks starts (omega arith) .answers .count
+      ∙ Rows-hold at upload-call .upload-count 1000 place asks starts
 
   invents-not : ⊥
   unfolding fitOf streamLength appEnd

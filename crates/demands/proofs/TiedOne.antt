@@ -1,5 +1,5 @@
 -- No second outcome fits: each promise is an equation with one right side. Assumes nothing.
-use mathlib.Core.Path.{_≡_, sym, _∙_}
+use mathlib.Core.Path.{sym, _∙_}
 use Rattle.demands.specs.Tied.{OneOutcome}
 
 pub OneOutcome-holds : OneOutcome

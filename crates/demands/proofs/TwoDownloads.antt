@@ -1,12 +1,11 @@
 -- Which definition serves a DNLOAD: a command by its number, what is no command, or a piece of data. Assumes nothing.
-use Prim.Native.Nat.{ℕ, _+_, _≤_, _<_}
-use mathlib.Core.Bool.{Bool, true, false, cond, _&&_, _||_}
-use mathlib.Core.List.{List}
+use Prim.Native.Nat.{ℕ, _+_, _≤_}
+use mathlib.Core.Bool.{Bool, true, false, _&&_, _||_}
 use mathlib.Core.Logic.{_⊎_, inl, inr}
-use mathlib.Core.Path.{_≡_, refl, ap, _∙_}
+use mathlib.Core.Path.{_≡_, refl, _∙_}
 use native.Mathlib.Omega.{arith}
 use lib.Dec.{eqb, leb}
-use lib.ListN.{length, getD}
+use lib.ListN.{length}
 use borrow.Author.Tests.{ne-eqb, le-leb, lt-leb, lt-ltb}
 use Rattle.flash.specs.Flash.{startOf}
 use Rattle.session.specs.Codes.{vendor}
@@ -14,7 +13,7 @@ use Rattle.session.specs.Session.{appEnd}
 use Rattle.session.specs.Rules.{inApplication}
 use Rattle.session.proofs.Laws.{inside-facts}
 use Rattle.request.specs.declared.Request.{Request}
-use Rattle.moves.specs.Answers.{Done, done, leaves}
+use Rattle.moves.specs.Answers.{leaves}
 use Rattle.moves.specs.Moves.{faultOf}
 use Rattle.command.specs.Download.{wellFormed, carriedOut, commandOf, pieceOf, dnloadOf}
 use Rattle.loader.specs.Step.{served, withReply}

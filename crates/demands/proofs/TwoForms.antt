@@ -1,20 +1,20 @@
 -- The form table is how a setup is read: a request in form is that request, and what is no request in form is none. Assumes nothing.
-use Prim.Native.Nat.{ℕ, _+_, _≤_, _<_}
-use mathlib.Core.Bool.{Bool, true, false, not, _&&_, _||_, false≢true}
+use Prim.Native.Nat.{ℕ, _≤_}
+use mathlib.Core.Bool.{Bool, true, false, not, _&&_, false≢true}
 use mathlib.Core.List.{List}
-use mathlib.Core.Logic.{_⊎_, inl, inr, ⊎-elim}
+use mathlib.Core.Logic.{inl, inr, ⊎-elim}
 use mathlib.Core.Path.{_≡_, refl, sym, ap, ap₂, _∙_}
 use native.Mathlib.Omega.{arith}
-use lib.Dec.{eqb, leb}
+use lib.Dec.{eqb}
 use lib.ListN.{length, getD}
 use borrow.Author.Tests.{eq-eqb, ne-eqb, eqb-true, eqb-false, not-true, le-leb}
 use Rattle.session.specs.Codes.{knownState}
 use Rattle.session.specs.Fit.{OneOfSix}
 use Rattle.session.proofs.Laws.{fit-facts, cases-state}
 use Rattle.session.proofs.Tests.{left-of, right-of, either}
-use Rattle.moves.specs.Answers.{Leaves, leaves}
+use Rattle.moves.specs.Answers.{leaves}
 use Rattle.moves.specs.Moves.{stallOf}
-use Rattle.request.specs.Request.{wordAt, setupOf, hasForm, inForm, formOf, requestOf, wLength, dataAsked, allowedOf}
+use Rattle.request.specs.Request.{wordAt, setupOf, hasForm, inForm, formOf, requestOf, wLength, allowedOf}
 use Rattle.request.specs.declared.Request.{Request}
 use Rattle.request.proofs.Laws.{form-right, form-facts, dnload-asked}
 use Rattle.loader.specs.Step.{served}

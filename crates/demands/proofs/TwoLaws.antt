@@ -1,15 +1,11 @@
 -- What a call leaves once it is known to be sound and allowed, or not. Assumes nothing.
-use Prim.Native.Nat.{ℕ, _≤_}
 use mathlib.Core.Bool.{true, false}
-use mathlib.Core.List.{List}
-use mathlib.Core.Path.{_≡_, refl}
-use native.Mathlib.Omega.{arith}
+use mathlib.Core.Path.{_≡_}
 use lib.ListN.{length}
 use borrow.Author.Tests.{eq-eqb, le-leb}
 use Rattle.moves.specs.Answers.{Leaves, leaves}
 use Rattle.moves.specs.Moves.{stallOf}
-use Rattle.session.specs.declared.Session.{Session}
-use Rattle.request.specs.Request.{requestOf, wLength, allowedOf, dataAsked}
+use Rattle.request.specs.Request.{requestOf, wLength, allowedOf}
 use Rattle.loader.specs.Step.{ready, served, stepOf}
 use Rattle.demands.specs.Calls.{Call, Site, called, next}
 use Rattle.demands.specs.Two.{Sound}

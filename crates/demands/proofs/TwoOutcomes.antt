@@ -3,7 +3,7 @@ use Prim.Native.Nat.{ℕ}
 use mathlib.Core.List.{List, [], _++_}
 use mathlib.Core.Path.{_≡_, refl, sym, ap, _∙_}
 use lib.ListN.{length, drop}
-use Rattle.session.specs.Session.{phaseOf, noDownload, upOf, withUp}
+use Rattle.session.specs.Session.{phaseOf, noDownload, upOf}
 use Rattle.session.specs.declared.Session.{Session}
 use Rattle.session.proofs.Laws.{fit-facts}
 use Rattle.moves.specs.declared.Answer.{Answer}

@@ -1,35 +1,32 @@
 -- Each row of the request table: what the definition of its request says, once the state is known. Assumes nothing.
 use Prim.Native.Nat.{ℕ, _+_, _-_, _≤_, _<_, min}
-use mathlib.Core.Bool.{Bool, true, false}
-use mathlib.Core.List.{List, [], _∷_, _++_}
+use mathlib.Core.List.{[], _∷_, _++_}
 use mathlib.Core.Logic.{_⊎_, inl, inr}
 use mathlib.Core.Path.{_≡_, refl, sym, ap, ap₂, _∙_}
 use native.Mathlib.Omega.{arith}
 use lib.ListN.{length, drop}
 use borrow.Author.Tests.{eq-eqb, ne-eqb, lt-ltb, le-ltb}
-use Rattle.session.specs.Codes.{idle, manifestSync, error, ok, notDone, stalled}
-use Rattle.session.specs.Session.{phaseOf, downOf, noDownload, upOf, withPhase, streamLength}
+use Rattle.session.specs.Session.{phaseOf, withPhase, streamLength}
 use Rattle.session.specs.declared.Session.{Session}
 use Rattle.session.proofs.Laws.{fit-facts, end-in-flash}
 use Rattle.request.specs.declared.Request.{Request}
-use Rattle.stream.specs.Stream.{nextOf, streamOf}
+use Rattle.stream.specs.Stream.{nextOf}
 use Rattle.stream.proofs.Laws.{next-length}
 use Rattle.moves.specs.declared.Answer.{Answer}
-use Rattle.moves.specs.declared.Outcome.{Outcome}
-use Rattle.moves.specs.Answers.{Leaves, Done, Replied, answerNumber, outcome, leaves, done}
-use Rattle.moves.specs.Moves.{movedTo, toIdle, takenOf, faultOf, stallOf}
+use Rattle.moves.specs.Answers.{outcome, leaves}
+use Rattle.moves.specs.Moves.{faultOf, stallOf}
 use Rattle.command.specs.Download.{pieceOf, closedOf}
 use Rattle.loader.specs.Reply.{answered, entered, polled, pollTime, getstatusOf, getstateOf, queryOf}
 use Rattle.loader.specs.Upload.{placeOf, answerOf, uploadEnds, uploadingAt, uploadedOf, uploadOf}
-use Rattle.loader.specs.Step.{served, withReply, withFlash}
+use Rattle.loader.specs.Step.{served, withFlash}
 use Rattle.demands.specs.Calls.{Call, Site, called}
-use Rattle.demands.specs.Two.{Sound, Asks, Refused, Answers, Enters, Unchanged, Moves, Reports, StartsAt, nextBytes, Uploads, Rows}
+use Rattle.demands.specs.Two.{stateOf, Sound, Asks, Refused, Unchanged, Moves, Reports, StartsAt, nextBytes, Uploads, Rows}
 use Rattle.demands.proofs.TwoForms.{asks-served, asks-stalled, asks-brings}
 use Rattle.demands.proofs.TwoOutcomes.{so-answers, so-session, so-flash, so-enters, so-unchanged, so-moves}
 use Rattle.demands.proofs.TwoDownloads.{piece-leaves}
 
 -- DNLOAD of no bytes
-module _ (at : Site) (c : Call) (k : Asks at c Request.Dnload 0) (loading : at .session .phase .state .0 ≡ 5) where
+module _ (at : Site) (c : Call) (k : Asks at c Request.Dnload 0) (loading : stateOf at ≡ 5) where
   closes : called at c ≡ leaves (closedOf (at .session)) (at .flash) (c .reply)
   unfolding pieceOf
   closes = piece-leaves at c 0 k loading ∙ rw (asks-brings at c 0 k)
@@ -63,7 +60,7 @@ module _ (at : Site) (c : Call) (n place : ℕ) (k : Asks at c Request.Upload n)
       asks-served at c Request.Upload n k (allowed e)
       ∙ ap (λ (p : ℕ). withFlash (answered (uploadedOf s n (length (nextBytes at p n))) (nextBytes at p n) (c .reply)) (at .flash)) (place-is e)
     where
-      allowed : StartsAt at place → (at .session .phase .state .0 ≡ 2) ⊎ (at .session .phase .state .0 ≡ 9)
+      allowed : StartsAt at place → (stateOf at ≡ 2) ⊎ (stateOf at ≡ 9)
       allowed (inl e) = inl (e .0)
       allowed (inr e) = inr (e .0)
 
@@ -115,59 +112,59 @@ module _ (at : Site) (c : Call) (k : Asks at c Request.GetStatus 6) where
         flash = so-flash at c Answer.Taken b t (at .flash) l;
       }
 
-  from-sync : at .session .phase .state .0 ≡ 3 → Reports at c (at .session .phase .after .0)
+  from-sync : stateOf at ≡ 3 → Reports at c (at .session .phase .after .0)
   unfolding entered
   from-sync e = reports _ (rw e)
 
-  from-manifest : at .session .phase .state .0 ≡ 6 → Reports at c 2
+  from-manifest : stateOf at ≡ 6 → Reports at c 2
   unfolding entered
   from-manifest e = reports 2 (rw e)
 
-  from-others : (at .session .phase .state .0 ≡ 3 → ⊥) → (at .session .phase .state .0 ≡ 6 → ⊥) → Reports at c (at .session .phase .state .0)
+  from-others : (stateOf at ≡ 3 → ⊥) → (stateOf at ≡ 6 → ⊥) → Reports at c (stateOf at)
   unfolding entered
-  from-others n3 n6 = reports _ (rw (ne-eqb (at .session .phase .state .0) 3 n3, ne-eqb (at .session .phase .state .0) 6 n6))
+  from-others n3 n6 = reports _ (rw (ne-eqb (stateOf at) 3 n3, ne-eqb (stateOf at) 6 n6))
 
 -- the short rows
 module _ (at : Site) (c : Call) where
-  cleared : Asks at c Request.ClrStatus 0 → at .session .phase .state .0 ≡ 10 → Moves at c 0 [] 2 0
+  cleared : Asks at c Request.ClrStatus 0 → stateOf at ≡ 10 → Moves at c 0 [] 2 0
   unfolding served
   cleared k e = so-moves at c Answer.Taken [] 2 0 (asks-served at c Request.ClrStatus 0 k e)
 
-  aborted : Asks at c Request.Abort 0 → (at .session .phase .state .0 ≡ 10 → ⊥) → Moves at c 0 [] 2 0
+  aborted : Asks at c Request.Abort 0 → (stateOf at ≡ 10 → ⊥) → Moves at c 0 [] 2 0
   unfolding served
   aborted k n = so-moves at c Answer.Taken [] 2 0 (asks-served at c Request.Abort 0 k n)
 
-  told-state : Asks at c Request.GetState 1 → Unchanged at c 0 (at .session .phase .state .0 ∷ [])
+  told-state : Asks at c Request.GetState 1 → Unchanged at c 0 (stateOf at ∷ [])
   unfolding served getstateOf answered
-  told-state k = so-unchanged at c Answer.Taken (at .session .phase .state .0 ∷ []) (asks-served at c Request.GetState 1 k tt)
+  told-state k = so-unchanged at c Answer.Taken (stateOf at ∷ []) (asks-served at c Request.GetState 1 k tt)
 
   queried : Asks at c Request.Query 4 → Unchanged at c 0 (0x4D ∷ 0x4C ∷ 0x01 ∷ 0x20 ∷ [])
   unfolding served queryOf answered
   queried k = so-unchanged at c Answer.Taken (0x4D ∷ 0x4C ∷ 0x01 ∷ 0x20 ∷ []) (asks-served at c Request.Query 4 k tt)
 
-  stalls : Sound at c → Refused at c → (at .session .phase .state .0 ≡ 10 → ⊥) → Moves at c 1 [] 10 0x0F
+  stalls : Sound at c → Refused at c → (stateOf at ≡ 10 → ⊥) → Moves at c 1 [] 10 0x0F
   unfolding stallOf
-  stalls k none n = so-moves at c Answer.Stalled [] 10 0x0F (asks-stalled at c k none ∙ rw (ne-eqb (at .session .phase .state .0) 10 n))
+  stalls k none n = so-moves at c Answer.Stalled [] 10 0x0F (asks-stalled at c k none ∙ rw (ne-eqb (stateOf at) 10 n))
 
-  stalls-in-error : Sound at c → Refused at c → at .session .phase .state .0 ≡ 10 → Unchanged at c 1 []
+  stalls-in-error : Sound at c → Refused at c → stateOf at ≡ 10 → Unchanged at c 1 []
   unfolding stallOf
-  stalls-in-error k none e = so-unchanged at c Answer.Stalled [] (asks-stalled at c k none ∙ rw (eq-eqb (at .session .phase .state .0) 10 e))
+  stalls-in-error k none e = so-unchanged at c Answer.Stalled [] (asks-stalled at c k none ∙ rw (eq-eqb (stateOf at) 10 e))
 
 pub Rows-hold : Rows
-Rows-hold =
+Rows-hold at c =
     record {
-      close = close-done;
-      close-missing = close-missing;
-      upload-count = λ at c n place k e. count-is at c n place k;
-      upload-ends = upload-ends;
-      upload-goes-on = upload-goes-on;
-      getstatus-sync = from-sync;
-      getstatus-manifest = from-manifest;
-      getstatus-else = from-others;
-      clrstatus = cleared;
-      getstate = told-state;
-      abort = aborted;
-      query = queried;
-      stalled = stalls;
-      stalled-in-error = stalls-in-error;
+      close = close-done at c;
+      close-missing = close-missing at c;
+      upload-count = λ n place k e. count-is at c n place k;
+      upload-ends = upload-ends at c;
+      upload-goes-on = upload-goes-on at c;
+      getstatus-sync = from-sync at c;
+      getstatus-manifest = from-manifest at c;
+      getstatus-else = from-others at c;
+      clrstatus = cleared at c;
+      getstate = told-state at c;
+      abort = aborted at c;
+      query = queried at c;
+      stalled = stalls at c;
+      stalled-in-error = stalls-in-error at c;
     }

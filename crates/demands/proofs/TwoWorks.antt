@@ -1,5 +1,5 @@
 -- A legal erase and a legal program are taken, and the flash is the named one to the byte. Assumes nothing.
-use Prim.Native.Nat.{ℕ, _+_, _-_, _≤_, _<_}
+use Prim.Native.Nat.{ℕ, _+_, _-_, _≤_}
 use mathlib.Core.Bool.{true}
 use mathlib.Core.List.{List, []}
 use mathlib.Core.Logic.{inl, inr}
@@ -24,7 +24,7 @@ use Rattle.command.specs.Download.{sumsAfter, wroteOf, progOf, eraseOf, carried
 use Rattle.loader.specs.Step.{withReply}
 use Rattle.demands.specs.Calls.{Call, Site, called}
 use Rattle.demands.specs.Two.{Sound, Asks}
-use Rattle.demands.specs.TwoCommands.{Commanded, Named, Counted, Legal, Blank, Rewritten, EraseDone, EraseWorks, BytesDone, ProgramWorks}
+use Rattle.demands.specs.TwoCommands.{Commanded, Named, Counted, Legal, Blank, EraseDone, EraseWorks, BytesDone, ProgramWorks}
 use Rattle.demands.proofs.Bytes.{spliced-byte, erased-length, erased-byte, erased-other, bytes-erased}
 use Rattle.demands.proofs.TwoForms.{asks-brings}
 use Rattle.demands.proofs.TwoOutcomes.{so-answers, so-session, so-flash, so-enters, at-start}

@@ -1,6 +1,6 @@
 -- Demand 2, the commands: what a DNLOAD with data does in state 2 and in state 5, and the faults in their order.
 use Prim.Native.Nat.{ℕ, _+_, _-_, _*_, _≤_, _<_}
-use mathlib.Core.List.{List, [], _∷_}
+use mathlib.Core.List.{List, []}
 use mathlib.Core.Logic.{_⊎_}
 use mathlib.Core.Path.{_≡_}
 use lib.ListN.{length, getD, drop}
@@ -10,13 +10,13 @@ use Rattle.request.specs.Request.{wordAt}
 use Rattle.request.specs.declared.Request.{Request}
 use Rattle.command.specs.Download.{longAt}
 use Rattle.demands.specs.Calls.{Call, Site, called}
-use Rattle.demands.specs.Two.{Asks, Answers, Enters, Moves}
+use Rattle.demands.specs.Two.{stateOf, handed, Asks, Answers, Enters, Moves}
 
 -- a DNLOAD of n bytes in state 2: its first byte is the command's number
 pub record Commanded (at : Site) (c : Call) (code n : ℕ) : Type 0 where
   pub asks : Asks at c Request.Dnload n
   pub some : 1 ≤ n
-  pub idle : at .session .phase .state .0 ≡ 2
+  pub idle : stateOf at ≡ 2
   pub command : getD (c .bytes) 0 0 ≡ code
 
 -- block in bytes 2-3 and length in bytes 4-7; for ERASE the count of blocks in bytes 4-5, and the length is theirs
@@ -51,8 +51,8 @@ pub record Rewritten (before after : List ℕ) (from n : ℕ) (byte : ℕ → �
 pub record EraseDone (at : Site) (c : Call) (block count : ℕ) : Type 0 where
   pub answers : Answers at c 0 []
   pub enters : Enters at c 3 0 2
-  pub no-download : called at c .outcome .session .down ≡ downOf 0 0
-  pub upload-kept : called at c .outcome .session .up ≡ at .session .up
+  pub no-download : handed at c .down ≡ downOf 0 0
+  pub upload-kept : handed at c .up ≡ at .session .up
   pub flash : Rewritten (at .flash) (called at c .flash) (startOf block) (startOf count) (λ i. 0xFF)
 
 abbrev pub EraseWorks : Type 0
@@ -65,8 +65,8 @@ EraseWorks =
 pub record BytesDone (at : Site) (c : Call) (place len : ℕ) (bytes : List ℕ) : Type 0 where
   pub answers : Answers at c 0 []
   pub enters : Enters at c 3 0 5
-  pub download : called at c .outcome .session .down ≡ downOf (place + length bytes) (len - length bytes)
-  pub upload-kept : called at c .outcome .session .up ≡ at .session .up
+  pub download : handed at c .down ≡ downOf (place + length bytes) (len - length bytes)
+  pub upload-kept : handed at c .up ≡ at .session .up
   pub flash : Rewritten (at .flash) (called at c .flash) place (length bytes) (λ i. getD bytes i 0)
 
 -- PROG with a legal, erased range and not more data than the length, which stands behind its eight bytes; and a piece of data in state
@@ -76,7 +76,7 @@ pub record ProgramWorks : Type 0 where
       (at : Site) (c : Call) (block len n : ℕ) → Commanded at c 1 n → 8 ≤ n → Named c block len → Legal at block len
       → n ≤ 8 + len → Blank at block len → BytesDone at c (startOf block) len (drop 8 (c .bytes))
   pub goes-on :
-      (at : Site) (c : Call) (n : ℕ) → Asks at c Request.Dnload n → at .session .phase .state .0 ≡ 5 → 1 ≤ n
+      (at : Site) (c : Call) (n : ℕ) → Asks at c Request.Dnload n → stateOf at ≡ 5 → 1 ≤ n
       → n ≤ at .session .down .left
       → BytesDone at c (at .session .down .place .0) (at .session .down .left) (c .bytes)
 
@@ -84,9 +84,9 @@ pub record ProgramWorks : Type 0 where
 pub record Chooses (at : Site) (c : Call) (number n choice flag first len : ℕ) : Type 0 where
   pub answers : Answers at c number []
   pub enters : Enters at c n 0 2
-  pub no-download : called at c .outcome .session .down ≡ downOf 0 0
-  pub upload : called at c .outcome .session .up ≡ upOf choice flag first len 0
-  pub sums : called at c .outcome .session .sums ≡ at .session .sums
+  pub no-download : handed at c .down ≡ downOf 0 0
+  pub upload : handed at c .up ≡ upOf choice flag first len 0
+  pub sums : handed at c .sums ≡ at .session .sums
   pub flash : called at c .flash ≡ at .flash
 
 -- what is no command: under 8 bytes, an unknown number, or extra bytes after a command other than PROG
@@ -95,29 +95,53 @@ pub data NoCommand (code n : ℕ) : Type 0 where
   unknown : (code ≡ 0) ⊎ (7 < code) → NoCommand code n
   extra : 8 < n → (code ≡ 1 → ⊥) → NoCommand code n
 
--- the other commands, and the faults
-pub record Commands : Type 0 where
+-- the other commands, and the faults: what is so at any site for any call
+pub record CommandsAt (at : Site) (c : Call) : Type 0 where
   -- READ chooses the flash stream and its range
-  pub read : (at : Site) (c : Call) (block len : ℕ) → Commanded at c 2 8 → Named c block len → Legal at block len → Chooses at c 0 3 0 (at .session .up .«prefix») block len
+  pub read :
+      (block len : ℕ) → Commanded at c 2 8 → Named c block len → Legal at block len
+      → Chooses at c 0 3 0 (at .session .up .«prefix») block len
   -- CHECK faults unless all erased
-  pub check : (at : Site) (c : Call) (block len : ℕ) → Commanded at c 3 8 → Named c block len → Legal at block len → Blank at block len → Moves at c 0 [] 3 0
+  pub check :
+      (block len : ℕ) → Commanded at c 3 8 → Named c block len → Legal at block len → Blank at block len → Moves at c 0 [] 3 0
   -- INFO chooses the info bytes
-  pub info : (at : Site) (c : Call) → Commanded at c 5 8 → Chooses at c 0 3 1 (at .session .up .«prefix») (at .session .up .first .0) (at .session .up .len)
+  pub info :
+      Commanded at c 5 8
+      → Chooses at c 0 3 1 (at .session .up .«prefix») (at .session .up .first .0) (at .session .up .len)
   -- BIN: byte 1 not zero: no prefix; zero: prefix
-  pub bin-off : (at : Site) (c : Call) → Commanded at c 6 8 → (getD (c .bytes) 1 0 ≡ 0 → ⊥) → Chooses at c 0 3 (at .session .up .choice) 0 (at .session .up .first .0) (at .session .up .len)
-  pub bin-on : (at : Site) (c : Call) → Commanded at c 6 8 → getD (c .bytes) 1 0 ≡ 0 → Chooses at c 0 3 (at .session .up .choice) 1 (at .session .up .first .0) (at .session .up .len)
+  pub bin-off :
+      Commanded at c 6 8 → (getD (c .bytes) 1 0 ≡ 0 → ⊥)
+      → Chooses at c 0 3 (at .session .up .choice) 0 (at .session .up .first .0) (at .session .up .len)
+  pub bin-on :
+      Commanded at c 6 8 → getD (c .bytes) 1 0 ≡ 0
+      → Chooses at c 0 3 (at .session .up .choice) 1 (at .session .up .first .0) (at .session .up .len)
   -- RESET is answer 4 and as fresh: state 2, prefix on, read range all of the application
-  pub reset : (at : Site) (c : Call) → Commanded at c 7 8 → Chooses at c 4 2 0 1 (at .session .board .a .0) ((at .session .board .b .0 - at .session .board .a .0) * 1024)
+  pub reset :
+      Commanded at c 7 8
+      → Chooses at c 4 2 0 1 (at .session .board .a .0) ((at .session .board .b .0 - at .session .board .a .0) * 1024)
   -- 0x0B
-  pub no-command : (at : Site) (c : Call) (code n : ℕ) → Commanded at c code n → NoCommand code n → Moves at c 3 [] 10 0x0B
+  pub no-command : (code n : ℕ) → Commanded at c code n → NoCommand code n → Moves at c 3 [] 10 0x0B
   -- 0x08: range empty or not wholly in the application, of PROG, READ, CHECK and ERASE
-  pub prog-range : (at : Site) (c : Call) (block len n : ℕ) → Commanded at c 1 n → 8 ≤ n → Named c block len → (Legal at block len → ⊥) → Moves at c 3 [] 10 0x08
-  pub read-range : (at : Site) (c : Call) (block len : ℕ) → Commanded at c 2 8 → Named c block len → (Legal at block len → ⊥) → Moves at c 3 [] 10 0x08
-  pub check-range : (at : Site) (c : Call) (block len : ℕ) → Commanded at c 3 8 → Named c block len → (Legal at block len → ⊥) → Moves at c 3 [] 10 0x08
-  pub erase-range : (at : Site) (c : Call) (block count : ℕ) → Commanded at c 4 8 → Counted c block count → (Legal at block (startOf count) → ⊥) → Moves at c 3 [] 10 0x08
+  pub prog-range :
+      (block len n : ℕ) → Commanded at c 1 n → 8 ≤ n → Named c block len → (Legal at block len → ⊥) → Moves at c 3 [] 10 0x08
+  pub read-range :
+      (block len : ℕ) → Commanded at c 2 8 → Named c block len → (Legal at block len → ⊥) → Moves at c 3 [] 10 0x08
+  pub check-range :
+      (block len : ℕ) → Commanded at c 3 8 → Named c block len → (Legal at block len → ⊥) → Moves at c 3 [] 10 0x08
+  pub erase-range :
+      (block count : ℕ) → Commanded at c 4 8 → Counted c block count → (Legal at block (startOf count) → ⊥)
+      → Moves at c 3 [] 10 0x08
   -- 0x08: more data than the length, or than remains
-  pub prog-data : (at : Site) (c : Call) (block len n : ℕ) → Commanded at c 1 n → Named c block len → 8 + len < n → Moves at c 3 [] 10 0x08
-  pub piece-data : (at : Site) (c : Call) (n : ℕ) → Asks at c Request.Dnload n → at .session .phase .state .0 ≡ 5 → at .session .down .left < n → Moves at c 3 [] 10 0x08
+  pub prog-data : (block len n : ℕ) → Commanded at c 1 n → Named c block len → 8 + len < n → Moves at c 3 [] 10 0x08
+  pub piece-data :
+      (n : ℕ) → Asks at c Request.Dnload n → stateOf at ≡ 5 → at .session .down .left < n → Moves at c 3 [] 10 0x08
   -- 0x05: the range of PROG or CHECK isn't all erased
-  pub prog-unerased : (at : Site) (c : Call) (block len n : ℕ) → Commanded at c 1 n → 8 ≤ n → Named c block len → Legal at block len → n ≤ 8 + len → NotBlank at block len → Moves at c 3 [] 10 0x05
-  pub check-unerased : (at : Site) (c : Call) (block len : ℕ) → Commanded at c 3 8 → Named c block len → Legal at block len → NotBlank at block len → Moves at c 3 [] 10 0x05
+  pub prog-unerased :
+      (block len n : ℕ) → Commanded at c 1 n → 8 ≤ n → Named c block len → Legal at block len → n ≤ 8 + len
+      → NotBlank at block len → Moves at c 3 [] 10 0x05
+  pub check-unerased :
+      (block len : ℕ) → Commanded at c 3 8 → Named c block len → Legal at block len → NotBlank at block len
+      → Moves at c 3 [] 10 0x05
+
+abbrev pub Commands : Type 0
+Commands = (at : Site) (c : Call) → CommandsAt at c
