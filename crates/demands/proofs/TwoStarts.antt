@@ -1,20 +1,17 @@
 -- A start is fresh where it may be, and else hands back zeros. Assumes nothing.
 use Prim.Native.Nat.{ℕ}
-use mathlib.Core.Bool.{Bool, true, false, _&&_}
+use mathlib.Core.Bool.{Bool, true, false}
 use mathlib.Core.List.{List}
-use mathlib.Core.Path.{_≡_, refl, sym, ap, subst, _∙_}
+use mathlib.Core.Path.{_≡_, refl}
 use native.Mathlib.Omega.{arith}
 use lib.ListN.{length}
 use borrow.Author.Tests.{eq-eqb, le-leb, lt-ltb}
 use Rattle.flash.specs.Flash.{startOf, blank}
 use Rattle.flash.proofs.Laws.{length-blank}
-use Rattle.sums.specs.Sum.{mostBlocks, freshSums}
+use Rattle.sums.specs.Sum.{mostBlocks}
 use Rattle.sums.proofs.Laws.{fresh-right}
 use Rattle.session.specs.Session.{boardOf, appEnd, wholeUpload, freshOf, zerosOf}
 use Rattle.session.proofs.Laws.{split-facts}
-use Rattle.moves.specs.declared.Answer.{Answer}
-use Rattle.moves.specs.declared.Outcome.{Outcome}
-use Rattle.moves.specs.Answers.{outcome}
 use Rattle.loader.specs.Step.{startable, freshStart, startOutcome}
 use Rattle.loader.proofs.Laws.{start-split, start-sized}
 use Rattle.demands.specs.Two.{Startable, Fresh, Zeros, Starts}
