@@ -14,24 +14,26 @@ use Rattle.crc.specs.Crc.{start, bitStep, bitSteps, byteStep, crcFrom, crcOf}
 use Rattle.crc.proofs.Bits.{xor-swap}
 use Rattle.crc.proofs.Laws.{crc-append, bits-xor}
 use Rattle.flash.specs.Flash.{range, spliced, blank}
-use Rattle.flash.proofs.Laws.{length-blank, spliced-from, spliced-apart}
+use Rattle.flash.proofs.Laws.{length-blank, spliced-length, spliced-from, spliced-apart}
 use Rattle.sums.specs.Sum.{blocksOf, wholeSum, refreshed}
 use Rattle.sums.specs.declared.Sums.{Sums}
 use Rattle.session.specs.Session.{appEnd, streamLength}
 use Rattle.session.specs.Rules.{fitOf}
 use Rattle.request.specs.Request.{setupOf, dataAsked}
 use Rattle.request.specs.declared.Request.{Request}
+use Rattle.moves.specs.declared.Outcome.{Outcome}
 use Rattle.moves.specs.Answers.{Leaves, answerNumber}
 use Rattle.moves.specs.Moves.{stallOf, movedTo}
 use Rattle.command.specs.Download.{sumsAfter, wroteOf}
 use Rattle.demands.specs.Calls.{Call, Site, called}
-use Rattle.demands.specs.Two.{Asks, StartsAt}
+use Rattle.demands.specs.Two.{Asks, StartsAt, Startable}
 use Rattle.demands.specs.Two.Form.{upload}
 use Rattle.demands.specs.TwoCommands.{EraseDone, BytesDone}
-use Rattle.demands.specs.Tied.{Step, Keeps, stallsAll, singleReply, doesNothing, allAtFirst, allAtClose, inventsCount, constantSums, Impostors}
+use Rattle.demands.specs.Tied.{Step, Keeps, stallsAll, singleReply, doesNothing, allAtFirst, allAtClose, inventsCount, constantSums, constantStart, StartPromise, Impostors}
 use Rattle.demands.proofs.Bytes.{blank-byte, spliced-byte}
 use Rattle.demands.proofs.TwoWorks.{EraseWorks-holds, ProgramWorks-holds, written-leaves}
 use Rattle.demands.proofs.TwoRows.{Rows-hold}
+use Rattle.demands.proofs.TwoStarts.{Starts-hold}
 use Rattle.demands.proofs.TwoMet.{small, placed, lent, setups, brings, onOne, so, small-sound, getstate-met, query-met, EraseWorks-met, ProgramWorks-met-start, ProgramWorks-met-piece}
 
 -- what an impostor that keeps the promise leaves at a call
@@ -197,6 +199,24 @@ module _ (sums : Sums) (k : Keeps (constantSums sums)) where
   constant-not : ⊥
   constant-not = last-tells (crcOf (range (blank 2048) 1024 1023)) (sym (constant 0) ∙ constant 255)
 
+last-long : (x : ℕ) → length (last-flash x) ≡ 2048
+unfolding last-flash
+last-long x = spliced-length (blank 2048) 2047 (x ∷ []) (omega (arith, length-blank 2048)) ∙ length-blank 2048
+
+module _ (sums : Sums) (k : (flash : List ℕ) (a b part0 part1 : ℕ) → StartPromise flash a b part0 part1 (constantStart sums flash a b part0 part1)) where
+  constant-first : (x : ℕ) → sums .whole ≡ byteStep (crcOf (range (blank 2048) 1024 1023)) x
+  unfolding constantStart appEnd
+  constant-first x =
+      let may : Startable (last-flash x) 1 2 =
+      record { some-loader = omega arith; some-application = omega arith; few-blocks = omega arith; sized = last-long x }
+      in
+      ap (λ (o : Outcome). o .session .sums .whole) (k (last-flash x) 1 2 0 0)
+      ∙ Starts-hold .taken (last-flash x) 1 2 0 0 may .sums .whole
+      ∙ last-sum x
+
+  start-not : ⊥
+  start-not = last-tells (crcOf (range (blank 2048) 1024 1023)) (sym (constant-first 0) ∙ constant-first 255)
+
 pub Impostors-fail : Impostors
 Impostors-fail =
     record {
@@ -207,4 +227,5 @@ Impostors-fail =
       all-at-close = close-not;
       invented-count = invents-not;
       constant-sums = constant-not;
+      constant-start = start-not;
     }

@@ -98,10 +98,10 @@ module _ (at : Site) (c : Call) where
       so-chooses at c Answer.Taken 3 (at .session .up .choice) 1 (at .session .up .first .0) (at .session .up .len) _ refl
       (command-leaves at c 6 8 k (omega arith) (omega arith) (omega arith) (inr refl) ∙ rw (eq-eqb (getD (c .bytes) 1 0) 0 e))
 
-  reset-done : Commanded at c 7 8 → Chooses at c 4 2 0 1 (at .session .board .a .0) ((at .session .board .b .0 - at .session .board .a .0) * 1024)
-  unfolding carriedOut resetOf freshOf wholeUpload appEnd
+  reset-done : Commanded at c 7 8 → Chooses at c 4 2 0 1 (at .session .board .a .0) ((appEnd (at .session .board) - at .session .board .a .0) * 1024)
+  unfolding carriedOut resetOf freshOf wholeUpload
   reset-done k =
-      so-chooses at c Answer.ResetAsked 2 0 1 (at .session .board .a .0) ((at .session .board .b .0 - at .session .board .a .0) * 1024) _ refl
+      so-chooses at c Answer.ResetAsked 2 0 1 (at .session .board .a .0) ((appEnd (at .session .board) - at .session .board .a .0) * 1024) _ refl
       (command-leaves at c 7 8 k (omega arith) (omega arith) (omega arith) (inr refl))
 
   no-command : (code n : ℕ) → Commanded at c code n → NoCommand code n → Moves at c 3 [] 10 0x0B

@@ -25,17 +25,15 @@ use Rattle.demands.proofs.TwoForms.{asks-served, asks-brings}
 
 -- a range is in the application exactly if it is legal
 pub legal-in : (at : Site) (block len : ℕ) → Legal at block len → inApplication (at .session .board) block len ≡ true
-unfolding appEnd
 legal-in at block len k =
     let b = at .session .board in
     rw (
       lt-ltb 0 len (k .some),
       le-leb (b .a .0) block (k .from),
-      le-leb (startOf block + len) (startOf (b .b .0)) (k .to),
+      le-leb (startOf block + len) (startOf (appEnd b)) (k .to),
     )
 
 in-legal : (at : Site) (block len : ℕ) → inApplication (at .session .board) block len ≡ true → Legal at block len
-unfolding appEnd
 in-legal at block len e =
     let i = inside-facts (at .session .board) block len e in
     record { some = i .some; from = i .from; to = i .to }

@@ -2,7 +2,7 @@
 use Prim.Native.Nat.{ℕ, _≤_}
 use mathlib.Core.Bool.{Bool, true, false, not, _&&_, false≢true}
 use mathlib.Core.List.{List}
-use mathlib.Core.Logic.{inl, inr, ⊎-elim}
+use mathlib.Core.Logic.{_⊎_, inl, inr, ⊎-elim}
 use mathlib.Core.Path.{_≡_, refl, sym, ap, ap₂, _∙_}
 use native.Mathlib.Omega.{arith}
 use lib.Dec.{eqb}
@@ -19,7 +19,7 @@ use Rattle.request.specs.declared.Request.{Request}
 use Rattle.request.proofs.Laws.{form-right, form-facts, dnload-asked}
 use Rattle.loader.specs.Step.{served}
 use Rattle.demands.specs.Calls.{Call, Site, called}
-use Rattle.demands.specs.Two.{Sound, Says, Form, Allowed, Asks, Refused}
+use Rattle.demands.specs.Two.{stateOf, Sound, Says, Form, Allowed, Asks, Refused}
 use Rattle.demands.specs.Two.Form.{dnload, upload, getstatus, clrstatus, getstate, abort, query}
 use Rattle.demands.proofs.TwoLaws.{sound-served, sound-stalled}
 
@@ -168,3 +168,20 @@ asks-brings at c n k =
     k .sound .brought
     ∙ dnload-asked (c .setup) (form-request (c .setup) (k .sound .eight) Request.Dnload n (k .form))
     ∙ form-length (c .setup) (k .sound .eight) Request.Dnload n (k .form)
+
+-- a sound call asks for an allowed request, or is refused
+pub asks-or-refused : (at : Site) (c : Call) → Sound at c → ((r : Request) × (n : ℕ) × Asks at c r n × Allowed r n (stateOf at)) ⊎ Refused at c
+asks-or-refused at c k = go (requestOf (c .setup)) refl (allowedOf (requestOf (c .setup)) (wLength (c .setup)) (stateOf at)) refl
+  where
+    go :
+        (r : Request) → requestOf (c .setup) ≡ r → (t : Bool) → allowedOf (requestOf (c .setup)) (wLength (c .setup)) (stateOf at) ≡ t
+        → ((r : Request) × (n : ℕ) × Asks at c r n × Allowed r n (stateOf at)) ⊎ Refused at c
+    go r e true h =
+        let told = told-allowed r (wLength (c .setup)) (stateOf at) (rw e at h) in
+        inl (r, wLength (c .setup), record { sound = k; form = request-form (c .setup) (k .eight) r e (λ z. rw z at told) }, told)
+    go r e false h =
+        inr λ x n form a.
+        let is = form-request (c .setup) (k .eight) x n form in
+        let long = form-length (c .setup) (k .eight) x n form in
+        let yes = allowed-told x n (stateOf at) (fit-facts (at .session) (k .fit) .state) a in
+        false≢true (sym h ∙ ap₂ (λ (y : Request) (m : ℕ). allowedOf y m (stateOf at)) is long ∙ yes)

@@ -103,6 +103,7 @@ abbrev pub onOne : ℕ → ℕ → ℕ → List ℕ
 onOne code low high = code ∷ 0 ∷ 1 ∷ 0 ∷ low ∷ high ∷ 0 ∷ 0 ∷ []
 
 pub EraseWorks-met : Commanded (small 2 0 0 0) (brings (onOne 4 1 0)) 4 8 × Counted (brings (onOne 4 1 0)) 1 1 × Legal (small 2 0 0 0) 1 (startOf 1)
+unfolding appEnd
 EraseWorks-met = (
   commanded (onOne 4 1 0) 4 (omega arith) (omega arith) refl,
   record { block-is = refl; count-is = refl },
@@ -113,6 +114,7 @@ EraseWorks-met = (
 pub ProgramWorks-met-start :
     Commanded (small 2 0 0 0) (brings (onOne 1 2 0 ++ (7 ∷ []))) 1 9 × Named (brings (onOne 1 2 0 ++ (7 ∷ []))) 1 2
     × Legal (small 2 0 0 0) 1 2 × Blank (small 2 0 0 0) 1 2
+unfolding appEnd
 ProgramWorks-met-start = (
   commanded (onOne 1 2 0 ++ (7 ∷ [])) 1 (omega arith) (omega arith) refl,
   record { block-is = refl; len-is = refl },
@@ -126,6 +128,7 @@ ProgramWorks-met-piece x place fit = met 5 0 place 1 fit Request.Dnload 1 _ _ re
 
 -- the commands that change no flash, on one byte at block 1
 pub read-met : Commanded (small 2 0 0 0) (brings (onOne 2 1 0)) 2 8 × Named (brings (onOne 2 1 0)) 1 1 × Legal (small 2 0 0 0) 1 1
+unfolding appEnd
 read-met = (
   commanded (onOne 2 1 0) 2 (omega arith) (omega arith) refl,
   record { block-is = refl; len-is = refl },
@@ -135,6 +138,7 @@ read-met = (
 pub check-met :
     Commanded (small 2 0 0 0) (brings (onOne 3 1 0)) 3 8 × Named (brings (onOne 3 1 0)) 1 1 × Legal (small 2 0 0 0) 1 1
     × Blank (small 2 0 0 0) 1 1
+unfolding appEnd
 check-met = (
   commanded (onOne 3 1 0) 3 (omega arith) (omega arith) refl,
   record { block-is = refl; len-is = refl },
@@ -190,6 +194,7 @@ abbrev pub marred : Site
 marred = record { session = small 2 0 0 0 .session; flash = spliced (blank 2048) 1024 (0 ∷ []) }
 
 pub unerased-met : (code : ℕ) → Commanded marred (brings (onOne code 1 0)) code 8 × Legal marred 1 1 × NotBlank marred 1 1
+unfolding appEnd
 unerased-met code =
     let fits : 1024 + 1 ≤ length (blank 2048) = rw (length-blank 2048) (omega arith) in
     let zero-byte : getD (spliced (blank 2048) 1024 (0 ∷ [])) (1024 + 0) 0 ≡ 0 = spliced-byte (blank 2048) 1024 (0 ∷ []) fits 0 (omega arith) in (

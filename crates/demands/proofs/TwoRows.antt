@@ -21,7 +21,7 @@ use Rattle.loader.specs.Upload.{placeOf, answerOf, uploadEnds, uploadingAt, upl
 use Rattle.loader.specs.Step.{served, withFlash}
 use Rattle.demands.specs.Calls.{Call, Site, called}
 use Rattle.demands.specs.Two.{stateOf, Sound, Asks, Refused, Unchanged, Moves, Reports, StartsAt, nextBytes, Uploads, Rows}
-use Rattle.demands.proofs.TwoForms.{asks-served, asks-stalled, asks-brings}
+use Rattle.demands.proofs.TwoForms.{asks-served, asks-stalled, asks-brings, asks-or-refused}
 use Rattle.demands.proofs.TwoOutcomes.{so-answers, so-session, so-flash, so-enters, so-unchanged, so-moves}
 use Rattle.demands.proofs.TwoDownloads.{piece-leaves}
 
@@ -167,4 +167,5 @@ Rows-hold at c =
       query = queried at c;
       stalled = stalls at c;
       stalled-in-error = stalls-in-error at c;
+      either = asks-or-refused at c;
     }

@@ -15,7 +15,7 @@ use Rattle.session.specs.Codes.{idle, downloadIdle}
 use Rattle.session.specs.Session.{appEnd, downOf, noDownload, withSums}
 use Rattle.session.specs.Rules.{running}
 use Rattle.session.specs.declared.Session.{Session}
-use Rattle.session.proofs.Laws.{fit-facts}
+use Rattle.session.proofs.Laws.{fit-facts, end-in-flash}
 use Rattle.request.specs.declared.Request.{Request}
 use Rattle.moves.specs.declared.Answer.{Answer}
 use Rattle.moves.specs.Answers.{leaves}
@@ -32,7 +32,7 @@ use Rattle.demands.proofs.TwoDownloads.{legal-in, command-leaves, piece
 
 -- a legal range lies in flash
 pub legal-fits : (at : Site) (c : Call) (block len : ℕ) → Sound at c → Legal at block len → startOf block + len ≤ length (at .flash)
-legal-fits at c block len k l = omega (arith, l .to, k .sized)
+legal-fits at c block len k l = omega (arith, l .to, end-in-flash (at .session .board), k .sized)
 
 module _ (at : Site) (c : Call) (block count : ℕ) (k : Commanded at c 4 8) (range : Counted c block count) (legal : Legal at block (startOf count)) where
   erase-sums : Sums
@@ -136,11 +136,10 @@ module _ (at : Site) (c : Call) (n : ℕ) (k : Asks at c Request.Dnload n) (load
 
   -- a running download lies in flash
   piece-fits : at .session .down .place .0 + length (c .bytes) ≤ length (at .flash)
-  unfolding appEnd
   piece-fits =
       let s = at .session in
       let runs : running (s .phase) ≡ true = rw loading in
-      omega (arith, fit-facts s (k .sound .fit) .left-to runs, few, asks-brings at c n k, k .sound .sized)
+      omega (arith, fit-facts s (k .sound .fit) .left-to runs, end-in-flash (s .board), few, asks-brings at c n k, k .sound .sized)
 
   piece-done : BytesDone at c (at .session .down .place .0) (at .session .down .left) (c .bytes)
   piece-done =

@@ -223,7 +223,13 @@ constantSums sums s flash setup d reply =
     let l = stepOf s flash setup d reply in
     leaves (outcome (l .outcome .answer) (l .outcome .count) (withSums (l .outcome .session) sums)) (l .flash) (l .reply)
 
--- none of them keeps the promise
+-- and such a start
+unfoldable pub constantStart : Sums → List ℕ → ℕ → ℕ → ℕ → ℕ → Outcome
+constantStart sums flash a b part0 part1 =
+    let o = startOutcome flash a b part0 part1 in
+    outcome (o .answer) (o .count) (withSums (o .session) sums)
+
+-- none of them keeps the promise; the inputs at which they fail are such as a board can have
 pub record Impostors : Type 0 where
   pub stalls-everything : Keeps stallsAll → ⊥
   pub single-reply : (bytes : List ℕ) → Keeps (singleReply bytes) → ⊥
@@ -233,3 +239,7 @@ pub record Impostors : Type 0 where
   pub all-at-close : (held : List ℕ) → Keeps (allAtClose held) → ⊥
   pub invented-count : (invented : ℕ → ℕ) → Keeps (inventsCount invented) → ⊥
   pub constant-sums : (sums : Sums) → Keeps (constantSums sums) → ⊥
+  pub constant-start :
+      (sums : Sums)
+      → ((flash : List ℕ) (a b part0 part1 : ℕ) → StartPromise flash a b part0 part1 (constantStart sums flash a b part0 part1))
+      → ⊥

@@ -1,18 +1,21 @@
 -- Demand 2, but for reading back: what is asked for in form and in a state that allows it is done, and anything else is stalled.
-use Prim.Native.Nat.{ℕ, _+_, _-_, _≤_, _<_, min}
+use Prim.Native.Nat.{ℕ, _+_, _-_, _*_, _≤_, _<_, min}
 use mathlib.Core.Bool.{true}
 use mathlib.Core.List.{List, [], _∷_, _++_}
 use mathlib.Core.Logic.{_⊎_}
 use mathlib.Core.Path.{_≡_}
-use lib.ListN.{length, getD, take, drop}
+use lib.ListN.{length, getD, take, drop, replicate}
 use Rattle.flash.specs.Flash.{startOf}
-use Rattle.session.specs.Session.{downOf, upOf, streamLength}
+use Rattle.sums.specs.Sum.{mostBlocks, Right}
+use Rattle.session.specs.Session.{boardOf, appEnd, phaseOf, downOf, upOf, streamLength}
 use Rattle.session.specs.Rules.{fitOf}
 use Rattle.session.specs.declared.Session.{Session}
 use Rattle.request.specs.Request.{wordAt, dataAsked}
 use Rattle.request.specs.declared.Request.{Request}
 use Rattle.stream.specs.Stream.{streamOf}
+use Rattle.moves.specs.declared.Outcome.{Outcome}
 use Rattle.moves.specs.Answers.{answerNumber}
+use Rattle.loader.specs.Step.{startOutcome}
 use Rattle.demands.specs.Calls.{Call, Site, called}
 
 -- the state that a site is in, and the session that a call hands back
@@ -158,6 +161,41 @@ pub record RowsAt (at : Site) (c : Call) : Type 0 where
   -- everything else is stalled: to state 10 with status 0x0F; in state 10 nothing changes
   pub stalled : Sound at c → Refused at c → (stateOf at ≡ 10 → ⊥) → Moves at c 1 [] 10 0x0F
   pub stalled-in-error : Sound at c → Refused at c → stateOf at ≡ 10 → Unchanged at c 1 []
+  -- and there is nothing else: a call that isn't unfit is a request in form and allowed, or is refused
+  pub either : Sound at c → ((r : Request) × (n : ℕ) × Asks at c r n × Allowed r n (stateOf at)) ⊎ Refused at c
 
 abbrev pub Rows : Type 0
 Rows = (at : Site) (c : Call) → RowsAt at c
+
+-- what a start must be handed: 1 ≤ A < B ≤ most blocks, and a flash of B blocks
+pub record Startable (flash : List ℕ) (a b : ℕ) : Type 0 where
+  pub some-loader : 1 ≤ a
+  pub some-application : a < b
+  pub few-blocks : b ≤ mostBlocks
+  pub sized : length flash ≡ startOf b
+
+-- a fresh start: answer 0, state 2, prefix on, read range all of the application, sums those of the flash
+pub record Fresh (flash : List ℕ) (a b part0 part1 : ℕ) (o : Outcome) : Type 0 where
+  pub answer : answerNumber (o .answer) ≡ 0
+  pub count : o .count ≡ 0
+  pub board : o .session .board ≡ boardOf a b part0 part1
+  pub phase : o .session .phase ≡ phaseOf 2 0 2
+  pub down : o .session .down ≡ downOf 0 0
+  pub up : o .session .up ≡ upOf 0 1 a ((appEnd (boardOf a b part0 part1) - a) * 1024) 0
+  pub sums : Right (o .session .sums) flash a (appEnd (boardOf a b part0 part1))
+
+-- a refused start: answer 2 and a session of zeros
+pub record Zeros (o : Outcome) : Type 0 where
+  pub answer : answerNumber (o .answer) ≡ 2
+  pub count : o .count ≡ 0
+  pub board : o .session .board ≡ boardOf 0 0 0 0
+  pub phase : o .session .phase ≡ phaseOf 0 0 0
+  pub down : o .session .down ≡ downOf 0 0
+  pub up : o .session .up ≡ upOf 0 0 0 0 0
+  pub sums : o .session .sums ≡ record { block = replicate mostBlocks 0; whole = 0 }
+
+pub record Starts : Type 0 where
+  pub taken :
+      (flash : List ℕ) (a b part0 part1 : ℕ) → Startable flash a b
+      → Fresh flash a b part0 part1 (startOutcome flash a b part0 part1)
+  pub refused : (flash : List ℕ) (a b part0 part1 : ℕ) → (Startable flash a b → ⊥) → Zeros (startOutcome flash a b part0 part1)

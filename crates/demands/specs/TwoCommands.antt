@@ -5,7 +5,7 @@ use mathlib.Core.Logic.{_⊎_}
 use mathlib.Core.Path.{_≡_}
 use lib.ListN.{length, getD, drop}
 use Rattle.flash.specs.Flash.{startOf}
-use Rattle.session.specs.Session.{downOf, upOf}
+use Rattle.session.specs.Session.{appEnd, downOf, upOf}
 use Rattle.request.specs.Request.{wordAt}
 use Rattle.request.specs.declared.Request.{Request}
 use Rattle.command.specs.Download.{longAt}
@@ -32,7 +32,7 @@ pub record Counted (c : Call) (block count : ℕ) : Type 0 where
 pub record Legal (at : Site) (block len : ℕ) : Type 0 where
   pub some : 1 ≤ len
   pub from : at .session .board .a .0 ≤ block
-  pub to : startOf block + len ≤ startOf (at .session .board .b .0)
+  pub to : startOf block + len ≤ startOf (appEnd (at .session .board))
 
 -- all of its bytes are 0xFF, or one of them isn't
 abbrev pub Blank : Site → ℕ → ℕ → Type 0
@@ -118,7 +118,7 @@ pub record CommandsAt (at : Site) (c : Call) : Type 0 where
   -- RESET is answer 4 and as fresh: state 2, prefix on, read range all of the application
   pub reset :
       Commanded at c 7 8
-      → Chooses at c 4 2 0 1 (at .session .board .a .0) ((at .session .board .b .0 - at .session .board .a .0) * 1024)
+      → Chooses at c 4 2 0 1 (at .session .board .a .0) ((appEnd (at .session .board) - at .session .board .a .0) * 1024)
   -- 0x0B
   pub no-command : (code n : ℕ) → Commanded at c code n → NoCommand code n → Moves at c 3 [] 10 0x0B
   -- 0x08: range empty or not wholly in the application, of PROG, READ, CHECK and ERASE
