@@ -3,13 +3,14 @@
 use Prim.Native.Nat.{ℕ}
 use mathlib.Core.Bool.{cond}
 use mathlib.Core.List.{List}
-use mathlib.Core.Path.{_≡_, refl, ap}
+use mathlib.Core.Path.{_≡_, refl, sym, ap, _∙_}
 use lib.Dec.{eqb}
 use Rattle.session.specs.declared.Session.{Session}
 use Rattle.moves.specs.declared.Answer.{Answer}
 use Rattle.moves.specs.Answers.{Leaves, answerNumber, outcome, leaves}
 use Rattle.loader.specs.Step.{stepOf}
-use Rattle.board.specs.Board.{Left, numbered, servedOf}
+use Rattle.board.specs.Board.{Left, numbered, startedOf, servedOf}
+use Rattle.board.specs.declared.Started.{Started}
 
 -- the answer that has a number
 pub answerFor : ℕ → Answer
@@ -42,3 +43,10 @@ numbered-tells l =
 pub served-tells : (s : Session) (flash setup d reply : List ℕ) → unnumbered (servedOf s flash setup d reply) ≡ stepOf s flash setup d reply
 unfolding servedOf
 served-tells s flash setup d reply = numbered-tells (stepOf s flash setup d reply)
+
+-- no second outcome fits the promise of either call, on the refused inputs too
+pub one-start : (flash : List ℕ) (a b part0 part1 : ℕ) (r t : Started) → r ≡ startedOf flash a b part0 part1 → t ≡ startedOf flash a b part0 part1 → r ≡ t
+one-start flash a b part0 part1 r t p q = p ∙ sym q
+
+pub one-request : (s : Session) (flash setup d reply : List ℕ) (l m : Left) → l ≡ servedOf s flash setup d reply → m ≡ servedOf s flash setup d reply → l ≡ m
+one-request s flash setup d reply l m p q = p ∙ sym q

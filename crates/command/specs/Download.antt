@@ -105,7 +105,7 @@ eraseOf s flash block count =
     (erased flash block count))
     (done (faultOf s address) flash)
 
--- INFO: chooses the info bytes until the next READ or RESET
+-- INFO: the info bytes are what an upload reads from now on
 unfoldable pub infoOf : Session → Outcome
 infoOf s =
     takenOf

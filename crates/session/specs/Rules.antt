@@ -35,7 +35,7 @@ running phase =
 abbrev pub downloadRule : Phase → Download → Bool
 downloadRule phase down = running phase || eqb (down .place .0) 0 && eqb (down .left) 0
 
--- the upload place is zero except in state upload idle, and never past the stream's end
+-- only in state upload idle can an upload stand beyond the first byte, and at most at the end of its stream
 abbrev pub uploadRule : Phase → Upload → Bool
 uploadRule phase up =
     (eqb (phase .state .0) uploadIdle || eqb (up .place) 0) && leb (up .place) (streamLength up)

@@ -13,9 +13,9 @@ ghost use Rattle.session.specs.Rules.{stateRule, statusRule, running, do
 ghost use Rattle.session.specs.Rules.{afterRule, inApplication, rangeRule, placeRule, flagsRule, fitOf};
 
 // The bytes of the prefix, and how many the info bytes are.
-pub const PREFIX_LENGTH: u64 = 8;
+const PREFIX_LENGTH: u64 = 8;
 
-pub const INFO_LENGTH: u64 = 20;
+const INFO_LENGTH: u64 = 20;
 
 #[repr(C)]
 pub struct State(pub u8);

@@ -14,7 +14,7 @@ ghost use Rattle.session.specs.Session.{appEnd, infoLength, prefixLength};
 ghost use Rattle.stream.specs.Stream.{bytes2, bytes4, headerOf, prefixOf, infoStream, nextOf, Sendable, Sent};
 
 // The number of the command that starts a download; a prefix begins with it, so that what was read can be sent back as it is.
-pub const PROG: u8 = 1;
+const PROG: u8 = 1;
 
 // The low bytes of a number, lowest first.
 struct Two(u8, u8);

@@ -1,5 +1,5 @@
--- A sum for each application block, zero for every other block number, and one over the application in address order.
--- The application is blocks a to e − 1.
+-- The kept sums: one to a block number, which is zero where the block is not of the application, and one of the application as a
+-- whole, from its lowest address up. The application is blocks a to e − 1.
 use Prim.Native.Nat.{ℕ, zero, suc, _+_, _-_, _^_, _≤_, _<_}
 use mathlib.Core.Bool.{Bool, cond, _&&_}
 use mathlib.Core.List.{List, [], _∷_}
