@@ -1,9 +1,9 @@
 -- What a script holds, and the flash that every run begins with.
-use Prim.Native.Nat.{ℕ, _+_, _*_, _/_, _%_}
+use Prim.Native.Nat.{ℕ, zero, suc, _+_, _*_, _/_, _%_}
 use mathlib.Core.Bool.{cond, _&&_}
 use mathlib.Core.List.{List}
 use lib.Dec.{eqb, leb, ltb}
-use lib.ListN.{length, getD}
+use lib.ListN.{length, getD, drop}
 use Rattle.flash.specs.Flash.{blockSize}
 use Rattle.sums.specs.Sum.{values}
 use Rattle.request.specs.Request.{wordAt}
@@ -34,6 +34,24 @@ unfoldable pub recordOf : List ℕ → Record
 recordOf rest =
     cond (ltb (length rest) (setupEnd rest + 2)) End
     (cond (ltb (length rest) (dataEnd rest)) End (Call (setupEnd rest) (dataEnd rest)))
+
+-- one call for a whole record, and those counted in what follows it; nothing where there is none
+unfoldable pub countWith : (List ℕ → ℕ) → List ℕ → Record → ℕ
+countWith count rest (Call ends next) = 1 + count (drop next rest)
+countWith count rest End = 0
+
+-- the calls that the rest of a script holds, up to its end or to a record that is cut short; n at most
+unfoldable pub countFrom : ℕ → List ℕ → ℕ
+countFrom zero rest = 0
+countFrom (suc n) rest = countWith (countFrom n) rest (recordOf rest)
+
+-- the calls after a head of ten bytes; every record takes some bytes, so there are no more calls than bytes
+abbrev pub callsAfterHead : List ℕ → ℕ
+callsAfterHead script = countFrom (length script) (drop 10 script)
+
+-- the calls of a script: none where it is too short for a head
+unfoldable pub callsOf : List ℕ → ℕ
+callsOf script = cond (ltb (length script) 10) 0 (callsAfterHead script)
 
 -- byte i of the flash at first: a pattern, with every even-numbered block from A on erased
 unfoldable pub firstByte : ℕ → ℕ → ℕ

@@ -4,6 +4,7 @@ use session::Session;
 ghost use Prim.Native.Nat.{_≤_};
 ghost use mathlib.Core.Path.{_≡_};
 ghost use lib.ListN.{length};
+ghost use Rattle.script.specs.Tape.{callsAfterHead, callsOf};
 ghost use Rattle.script.specs.Turn.{turned, turnOf};
 use crate::line::Line;
 use crate::tape::Head;
@@ -38,10 +39,13 @@ fn play_call(s: Session, flash: &mut [u8], setup: &[u8], d: &[u8]) -> Turn
     }
 }
 
-// The calls of a script, each with the session that the one before handed back.
-fn play_calls(script: &[u8], flash: &mut [u8], first: Session) {
+// The calls of a script, each with the session that the one before handed back, and how many they were.
+fn play_calls(script: &[u8], flash: &mut [u8], first: Session) -> usize
+    ensures { λ r. ⌜ r ≡ callsAfterHead (now (script .entry)) ⌝ }
+{
     let mut session = first;
     let mut at = tape::HEAD;
+    let mut played = 0;
     while at < script.len() {
         let rest = &script[at..];
         match tape::next_record(rest) {
@@ -51,22 +55,25 @@ fn play_calls(script: &[u8], flash: &mut [u8], first: Session) {
                 line::show(done.line);
                 session = done.session;
                 at += next;
+                played += 1;
             }
-            Record::End => return,
+            Record::End => return played,
         }
     }
+    played
 }
 
 // The flash as a run begins, the start, and the calls.
-fn play_from(script: &[u8], head: Head, flash: &mut [u8])
+fn play_from(script: &[u8], head: Head, flash: &mut [u8]) -> usize
     requires { ⌜ length (now flash) ≤ 261120 ⌝ }
+    ensures { λ r. ⌜ r ≡ callsAfterHead (now (script .entry)) ⌝ }
 {
     let a = head.a as u32;
     let b = head.b as u32;
     tape::fill(flash, a);
     let begun = loader::start(flash, Block(a), Block(b), head.part0, head.part1);
     line::show_start(begun);
-    play_calls(script, flash, begun.session);
+    play_calls(script, flash, begun.session)
 }
 
 // Zeros for a flash. The contract gives their number only, since every run fills its flash first.
@@ -76,13 +83,15 @@ fn room() -> [u8; ROOM]
     [0u8; ROOM]
 }
 
-// Plays a script. One that is too short for a head says nothing.
-pub fn play(script: &[u8]) {
+// Plays a script, and tells how many calls it held. One that is too short for a head says nothing.
+pub fn play(script: &[u8]) -> usize
+    ensures { λ r. ⌜ r ≡ callsOf (now (script .entry)) ⌝ }
+{
     if script.len() < tape::HEAD {
-        return;
+        return 0;
     }
     let head = tape::read_head(script);
     let n = head.b as usize * 1024;
     let mut flash = room();
-    play_from(script, head, &mut flash[..n]);
+    play_from(script, head, &mut flash[..n])
 }

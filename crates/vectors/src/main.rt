@@ -2,6 +2,9 @@
 //
 // A published value carries a final complement, and the sum of a DFU file has none. So each line
 // has the name, the length, the sum, and the complement of the sum, which is the published value.
+//
+// The sources named below are from memory, and were checked by value only: a second computation of
+// each message's sum gives the value, but no source was at hand to read it from.
 use libc::STDOUT_FILENO;
 
 // Published values are the sum xor these bits.
@@ -22,12 +25,22 @@ fn show(name: &[u8], bytes: &[u8]) {
 }
 
 // The value of `check` is the check of CRC-32/ISO-HDLC in the Catalogue of parametrised CRC
-// algorithms. Those of `empty`, `a` and `old` are in the tests of Go's hash/crc32.
+// algorithms. Those of `empty`, `a`, `old`, `past`, `pole` and `mars` are in the tests of Go's
+// hash/crc32, in the table of golden values. That of `fox` has no source here, see `show_runs`.
 fn show_text() {
     show(b"empty", b"");
     show(b"a", b"a");
     show(b"check", b"123456789");
     show(b"old", b"Discard medicine more than two years old.");
+    show(
+        b"past",
+        b"He who has a shady past knows that nice guys finish last.",
+    );
+    show(b"pole", b"I wouldn't marry him with a ten foot pole.");
+    show(
+        b"mars",
+        b"Free! Free!/A trip/to Mars/for 900/empty jars/Burma Shave",
+    );
     show(b"fox", b"The quick brown fox jumps over the lazy dog");
 }
 

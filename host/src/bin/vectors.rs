@@ -1,5 +1,6 @@
 //! The published CRC-32 vectors a second time, one bit after the other and with no table: the
 //! lines that the program `vectors` must write. Standard library only.
+//! The sources of the values are named in that program, from memory: they were checked by value only.
 
 /// The sum of a DFU file suffix: each bit of a byte, the lowest first, is compared with the low
 /// bit of the register, and where they differ the polynomial goes in.
@@ -20,11 +21,14 @@ fn sum(bytes: &[u8]) -> u32 {
 
 fn main() {
     let rising: Vec<u8> = (0..32).collect();
-    let vectors: [(&str, &[u8], u32); 15] = [
+    let vectors: [(&str, &[u8], u32); 18] = [
         ("empty", b"", 0x0000_0000),
         ("a", b"a", 0xE8B7_BE43),
         ("check", b"123456789", 0xCBF4_3926),
         ("old", b"Discard medicine more than two years old.", 0x6B9C_DFE7),
+        ("past", b"He who has a shady past knows that nice guys finish last.", 0xC90E_F73F),
+        ("pole", b"I wouldn't marry him with a ten foot pole.", 0xB902_341F),
+        ("mars", b"Free! Free!/A trip/to Mars/for 900/empty jars/Burma Shave", 0x0420_80E8),
         ("fox", b"The quick brown fox jumps over the lazy dog", 0x414F_A339),
         ("routines-1", &[0; 4], 0x2144_DF1C),
         ("routines-2", &[0xF2, 0x01, 0x83], 0x24AB_9D77),

@@ -1,12 +1,15 @@
--- A byte names at most 255 blocks, and there is room for as many.
+-- A byte names at most 255 blocks, and there is room for as many. The count is that of the calls after the head.
 use native.Mathlib.Omega.{arith}
-use lib.ListN.{length-take}
 use borrow.Author.Needs.{needs}
+use borrow.Author.Tests.{lt-ltb, le-ltb}
+use lib.ListN.{length, length-take}
+use Rattle.script.specs.Tape.{callsOf}
 use Rattle.script.proofs.play.Statement.{statement}
 use Rattle.script.proofs.play.Tie as tie
 
 returns : tie.Need-returns
-returns c = search needs
+unfolding callsOf
+returns c = rw (lt-ltb _ 10 (c .if1 .taken))
 
 read-head-requires : tie.Need-read-head-requires
 read-head-requires c κs = search needs
@@ -30,7 +33,10 @@ play-from-requires : tie.Need-play-from-requires
 play-from-requires c κs = simp length-take (omega arith)
 
 returns-2 : tie.Need-returns-2
-returns-2 c = search needs
+unfolding callsOf
+returns-2 c =
+    let long = le-ltb (length (c .before .before .before .before .before .before .before .before .args .script .now)) 10 (omega arith) in
+    rw long (c .before .play-from .ensures)
 
 pub play-spec : {M : Type 1} → statement M
 play-spec =

@@ -1,21 +1,24 @@
--- Each record lies in what is left of the script, and takes some of it: so there is an end.
+-- Each record lies in what is left of the script, takes some of it and counts one: so there is an end, where all were counted.
 use Prim.Native.Nat.{_-_}
 use mathlib.Core.Path.{_≡_, sym, _∙_}
 use native.Mathlib.Omega.{arith}
 use borrow.Author.Needs.{needs}
 use lib.ListN.{length}
-use Rattle.script.proofs.Records.{Inside, inside}
+use Rattle.script.specs.Tape.{recordOf}
+use Rattle.script.specs.declared.tape.Record.the-variants.{Call}
+use Rattle.script.proofs.Records.{rest, Inside, inside}
+use Rattle.script.proofs.Counting.{Counted, none-counted, one-counted, all-at-cut, all-at-end}
 use Rattle.script.proofs.play_calls.Statement.{statement}
 use Rattle.script.proofs.play_calls.Tie as tie
 
 abbrev Inv-loop : tie.InvT-loop
-Inv-loop script flash₀ session₀ at₀ flash session at = length flash ≡ length flash₀
+Inv-loop script flash₀ session₀ at₀ played₀ flash session at played = (length flash ≡ length flash₀) × Counted script at played
 
 abbrev μ-loop : tie.MeasureT-loop
-μ-loop script flash₀ session₀ at₀ flash session at = length script - at
+μ-loop script flash₀ session₀ at₀ played₀ flash session at played = length script - at
 
 loop-holds : tie.Need-loop-holds Inv-loop μ-loop
-loop-holds c = omega arith
+loop-holds c = (omega arith, none-counted _)
 
 sub-rest : tie.Need-sub-rest Inv-loop μ-loop
 sub-rest c = omega arith
@@ -32,13 +35,19 @@ next-record-requires c κs = search needs
 enum-known-ends : tie.Need-enum-known-ends Inv-loop μ-loop
 enum-known-ends c = search needs
 
--- where the record's parts lie
+-- which record was read
+read :
+    (c : tie.After-known-told Inv-loop μ-loop)
+    → recordOf (rest (c .before .before .before .before .before .before .before .before .before .args .script .now) (c .before .before .before .before .before .before .loop .at)) ≡ Call (c .before .ends .given .0 .0) (c .before .ends .given .0 .1 .0)
+read c = sym (c .before .before .before .next-record .ensures) ∙ c .before .ends .given .1
+
+-- where its parts lie
 told :
     (c : tie.After-known-told Inv-loop μ-loop)
     → Inside (c .before .before .before .before .before .before .before .before .before .args .script .now) (c .before .before .before .before .before .before .loop .at) (c .before .ends .given .0 .0) (c .before .ends .given .0 .1 .0)
 told c =
     let turn = c .before .before .before .before .before in
-    inside _ _ (turn .loop-test .taken) _ _ (sym (c .before .before .before .next-record .ensures) ∙ c .before .ends .given .1)
+    inside _ _ (turn .loop-test .taken) _ _ (read c)
 
 add-from : tie.Need-add-from Inv-loop μ-loop
 add-from c = let h = told c in omega arith
@@ -74,11 +83,21 @@ add-at c =
     let few = t .before .before .before .before .before .before .before .before .before .good .0 .0 in
     omega arith
 
+add-played : tie.Need-add-played Inv-loop μ-loop
+add-played c =
+    let t = c .before .before .before .before .before .before .before .before in
+    let few = t .before .before .before .before .before .before .before .before .before .good .0 .0 in
+    let l = t .before .before .before .before .before .before .loop .inv .1 in
+    omega arith
+
 loop-less : tie.Need-loop-less Inv-loop μ-loop
 loop-less c = let h = told (c .before .before .before .before .before .before .before .before) in omega arith
 
 loop-again : tie.Need-loop-again Inv-loop μ-loop
-loop-again c = omega arith
+loop-again c =
+    let t = c .before .before .before .before .before .before .before .before in
+    let turn = t .before .before .before .before .before in
+    (omega arith, one-counted _ _ _ _ _ (turn .loop-test .taken) (read t) (told t) (turn .before .loop .inv .1))
 
 enum-told : tie.Need-enum-told Inv-loop μ-loop
 enum-told c = search needs
@@ -87,13 +106,13 @@ same-length : tie.Need-same-length Inv-loop μ-loop
 same-length c = search needs
 
 returns : tie.Need-returns Inv-loop μ-loop
-returns c = search needs
+returns c = all-at-cut _ _ _ (sym (c .before .before .next-record .ensures) ∙ c .enum-told .given .1) (c .before .before .before .before .before .loop .inv .1)
 
 same-length-2 : tie.Need-same-length-2 Inv-loop μ-loop
 same-length-2 c = search needs
 
 returns-2 : tie.Need-returns-2 Inv-loop μ-loop
-returns-2 c = search needs
+returns-2 c = all-at-end _ _ _ (omega arith) (c .before .loop .inv .1)
 
 pub play-calls-spec : {M : Type 1} → statement M
 play-calls-spec =
@@ -117,6 +136,7 @@ play-calls-spec =
     play-call-requires
     show-requires
     add-at
+    add-played
     loop-less
     loop-again
     enum-told
