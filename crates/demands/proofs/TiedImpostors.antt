@@ -29,7 +29,7 @@ use Rattle.demands.specs.Calls.{Call, Site, called}
 use Rattle.demands.specs.Two.{Asks, StartsAt, Startable}
 use Rattle.demands.specs.Two.Form.{upload}
 use Rattle.demands.specs.TwoCommands.{EraseDone, BytesDone}
-use Rattle.demands.specs.Tied.{Step, Keeps, stallsAll, singleReply, doesNothing, allAtFirst, allAtClose, inventsCount, constantSums, constantStart, StartPromise, Impostors}
+use Rattle.demands.specs.Tied.{Step, Keeps, stallsAll, singleReply, doesNothing, saysTaken, allAtFirst, allAtClose, inventsCount, constantSums, constantStart, StartPromise, Impostors}
 use Rattle.demands.proofs.Bytes.{blank-byte, spliced-byte}
 use Rattle.demands.proofs.TwoWorks.{EraseWorks-holds, ProgramWorks-holds, written-leaves}
 use Rattle.demands.proofs.TwoRows.{Rows-hold}
@@ -82,9 +82,20 @@ module _ (bytes : List ℕ) (k : Keeps (singleReply bytes)) where
       let four = counts (small 10 0x0F 0 0) query-call ∙ Rows-hold (small 10 0x0F 0 0) query-call .query query-met .answers .count in
       omega arith
 
+-- PROG stores its first byte
 nothing-not : Keeps doesNothing → ⊥
+unfolding doesNothing
 nothing-not k =
-    let e = ap (λ (l : Leaves). l .outcome .session .phase .state .0) (at-call doesNothing k (small 2 0 0 0) erase-call) in
+    let kept : blank 2048 ≡ called (small 2 0 0 0) prog-call .flash =
+    ap (λ (l : Leaves). l .flash) (at-call doesNothing k (small 2 0 0 0) prog-call)
+    in
+    let there : getD (called (small 2 0 0 0) prog-call .flash) 1024 0 ≡ 7 = prog-done .flash .inside 0 (omega arith) in
+    omega (arith, sym (blank-byte 2048 1024 (omega arith)) ∙ ap (λ (l : List ℕ). getD l 1024 0) kept ∙ there)
+
+-- ERASE goes to state 3
+said-not : Keeps saysTaken → ⊥
+said-not k =
+    let e = ap (λ (l : Leaves). l .outcome .session .phase .state .0) (at-call saysTaken k (small 2 0 0 0) erase-call) in
     omega (arith, e ∙ erase-done .enters .state)
 
 -- PROG of two bytes that brings the first of them: the byte is there, and the second place is as before
@@ -223,9 +234,17 @@ Impostors-fail =
       stalls-everything = stalls-not;
       single-reply = replies-not;
       nothing-done = nothing-not;
+      nothing-but-said = said-not;
       all-at-first = first-not;
       all-at-close = close-not;
       invented-count = invents-not;
       constant-sums = constant-not;
       constant-start = start-not;
     }
+
+-- an image that is more than one byte, goes into a block and has another second byte than 0xFF
+abbrev two-bytes : List ℕ
+two-bytes = 7 ∷ 8 ∷ []
+
+pub all-at-first-met : (2 ≤ length two-bytes) × (length two-bytes ≤ 1024) × (getD two-bytes 1 0 ≡ 0xFF → ⊥)
+all-at-first-met = (omega arith, omega arith, λ e. omega (arith, e))
