@@ -126,7 +126,7 @@ nextBytes at place n = take n (drop place (streamOf (at .session .board) (at .se
 pub record Uploads (at : Site) (c : Call) (place n : ℕ) : Type 0 where
   pub answers : Answers at c 0 (nextBytes at place n)
   pub enters : Enters at c 9 0 2
-  pub no-download : handed at c .down ≡ downOf 0 0
+  pub none-loading : handed at c .down ≡ downOf 0 0
   pub upload :
       handed at c .up
       ≡ upOf (at .session .up .choice) (at .session .up .«prefix») (at .session .up .first .0) (at .session .up .len)
