@@ -1,4 +1,4 @@
--- No impostor keeps the promise: demand 2's tables, ERASE, PROG and the pieces reject all but the last, and the CRC that one.
+-- No impostor keeps the promise: demand 2's tables, ERASE, PROG and the pieces reject all but those of the sums, and the CRC those.
 -- Assumes nothing.
 use Prim.Native.Nat.{ℕ, _+_, _-_, _≤_, min}
 use mathlib.Core.Bool.{true, cond}
@@ -30,12 +30,12 @@ use Rattle.demands.specs.One.{Allowed}
 use Rattle.demands.specs.Two.{Asks, StartsAt}
 use Rattle.demands.specs.Two.Form.{upload}
 use Rattle.demands.specs.TwoCommands.{EraseDone, BytesDone}
-use Rattle.demands.specs.Tied.{Step, Keeps, stallsAll, singleReply, doesNothing, saysTaken, allAtFirst, allAtClose, inventsCount, constantSums, constantStart, StartPromise, Impostors}
+use Rattle.demands.specs.Tied.{Step, Keeps, stallsAll, singleReply, doesNothing, doesNothingAt, saysTaken, allAtFirst, allAtClose, inventsCount, constantSums, constantStart, StartPromise, Impostors}
 use Rattle.demands.proofs.Bytes.{blank-byte, spliced-byte}
 use Rattle.demands.proofs.TwoWorks.{EraseWorks-holds, ProgramWorks-holds, written-leaves}
 use Rattle.demands.proofs.TwoRows.{Rows-hold}
 use Rattle.demands.proofs.TwoStarts.{Starts-hold}
-use Rattle.demands.proofs.TwoMet.{small, placed, lent, setups, brings, onOne, so, small-sound, getstate-met, query-met, EraseWorks-met, ProgramWorks-met-start, ProgramWorks-met-piece}
+use Rattle.demands.proofs.TwoMet.{small, placed, lent, setups, brings, onOne, so, small-sound, commanded-over, getstate-met, query-met, EraseWorks-met, ProgramWorks-met-start, ProgramWorks-met-piece}
 
 -- what an impostor that keeps the promise leaves at a call
 at-call : (f : Step) → Keeps f → (at : Site) (c : Call) → f (at .session) (at .flash) (c .setup) (c .bytes) (c .reply) ≡ called at c
@@ -84,14 +84,18 @@ module _ (bytes : List ℕ) (k : Keeps (singleReply bytes)) where
       omega arith
 
 -- PROG stores its first byte
-nothing-not : Keeps doesNothing → ⊥
-unfolding doesNothing
-nothing-not k =
-    let kept : blank 2048 ≡ called (small 2 0 0 0) prog-call .flash =
-    ap (λ (l : Leaves). l .flash) (at-call doesNothing k (small 2 0 0 0) prog-call)
-    in
+stores : blank 2048 ≡ called (small 2 0 0 0) prog-call .flash → ⊥
+stores kept =
     let there : getD (called (small 2 0 0 0) prog-call .flash) 1024 0 ≡ 7 = prog-done .flash .inside 0 (omega arith) in
     omega (arith, sym (blank-byte 2048 1024 (omega arith)) ∙ ap (λ (l : List ℕ). getD l 1024 0) kept ∙ there)
+
+nothing-not : Keeps doesNothing → ⊥
+unfolding doesNothing
+nothing-not k = stores (ap (λ (l : Leaves). l .flash) (at-call doesNothing k (small 2 0 0 0) prog-call))
+
+programs-not : Keeps (doesNothingAt 1) → ⊥
+unfolding doesNothingAt
+programs-not k = stores (ap (λ (l : Leaves). l .flash) (at-call (doesNothingAt 1) k (small 2 0 0 0) prog-call))
 
 -- ERASE goes to state 3
 said-not : Keeps saysTaken → ⊥
@@ -136,11 +140,7 @@ module _ (held : List ℕ) (k : Keeps (allAtClose held)) where
       ∙ ap (λ (m : Leaves). m .flash) (at-call (allAtClose held) k (small 2 0 0 0) prog-call)
 
   close-not : ⊥
-  close-not =
-      let w = prog-done .flash in
-      let there : getD (called (small 2 0 0 0) prog-call .flash) 1024 0 ≡ 7 = w .inside 0 (omega arith) in
-      let blanked = ap (λ (l : List ℕ). getD l 1024 0) close-kept in
-      omega (arith, sym (blank-byte 2048 1024 (omega arith)) ∙ blanked ∙ there)
+  close-not = stores close-kept
 
 -- the same request at the stream's start and near its end
 upload-asks : (state place : ℕ) → fitOf (placed state 0 0 0 place .session) ≡ true → Asks (placed state 0 0 0 place) upload-call Request.Upload 1000
@@ -215,6 +215,29 @@ last-long : (x : ℕ) → length (last-flash x) ≡ 2048
 unfolding last-flash
 last-long x = spliced-length (blank 2048) 2047 (x ∷ []) (omega (arith, length-blank 2048)) ∙ length-blank 2048
 
+-- ERASE of a block whose last byte is zero
+abbrev marred : Site
+marred = record { session = small 2 0 0 0 .session; flash = last-flash 0 }
+
+marred-erased : EraseDone marred erase-call 1 1
+unfolding appEnd
+marred-erased =
+    EraseWorks-holds marred erase-call 1 1
+    (commanded-over (last-flash 0) (onOne 4 1 0) 4 (last-long 0) (omega arith) (omega arith) refl) (EraseWorks-met .1)
+    (record { some = omega arith; from = omega arith; to = omega arith })
+
+erases-not : Keeps (doesNothingAt 4) → ⊥
+unfolding doesNothingAt last-flash
+erases-not k =
+    let kept : last-flash 0 ≡ called marred erase-call .flash =
+    ap (λ (l : Leaves). l .flash) (at-call (doesNothingAt 4) k marred erase-call)
+    in
+    let zero-there : getD (last-flash 0) 2047 0 ≡ 0 =
+    spliced-byte (blank 2048) 2047 (0 ∷ []) (omega (arith, length-blank 2048)) 0 (omega arith)
+    in
+    let cleared : getD (called marred erase-call .flash) 2047 0 ≡ 255 = marred-erased .flash .inside 1023 (omega arith) in
+    omega (arith, sym zero-there ∙ ap (λ (l : List ℕ). getD l 2047 0) kept ∙ cleared)
+
 module _ (sums : Sums) (k : (flash : List ℕ) (a b part0 part1 : ℕ) → StartPromise flash a b part0 part1 (constantStart sums flash a b part0 part1)) where
   constant-first : (x : ℕ) → sums .whole ≡ byteStep (crcOf (range (blank 2048) 1024 1023)) x
   unfolding constantStart appEnd
@@ -235,6 +258,8 @@ Impostors-fail =
       stalls-everything = stalls-not;
       single-reply = replies-not;
       nothing-done = nothing-not;
+      nothing-programmed = programs-not;
+      nothing-erased = erases-not;
       nothing-but-said = said-not;
       all-at-first = first-not;
       all-at-close = close-not;
