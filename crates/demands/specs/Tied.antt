@@ -193,7 +193,7 @@ doesNothing s flash setup d reply =
     let l = stepOf s flash setup d reply in
     leaves (l .outcome) flash (l .reply)
 
--- one that does nothing at one command, by its number; right at every other call and in all else
+-- one that leaves the flash where the data begin with one command's number; right at every other call and in all else
 unfoldable pub doesNothingAt : ℕ → Step
 doesNothingAt code s flash setup d reply =
     let l = stepOf s flash setup d reply in
