@@ -14,6 +14,7 @@ pub mod TwoDownloads
 pub mod TwoWorks
 pub mod TwoCommands
 pub mod TwoRows
+pub mod TwoStreams
 pub mod TwoStarts
 pub mod TwoMet
 pub mod TiedDesk

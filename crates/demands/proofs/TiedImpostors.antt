@@ -1,4 +1,4 @@
--- No impostor keeps the promise: demand 2's tables, ERASE, PROG and the pieces reject all but the last, and the CRC that one.
+-- No impostor keeps the promise: demand 2's tables, ERASE, PROG and the pieces reject all but those of the sums, and the CRC those.
 -- Assumes nothing.
 use Prim.Native.Nat.{ℕ, _+_, _-_, _≤_, min}
 use mathlib.Core.Bool.{true, cond}
@@ -26,15 +26,16 @@ use Rattle.moves.specs.Answers.{Leaves, answerNumber}
 use Rattle.moves.specs.Moves.{stallOf, movedTo}
 use Rattle.command.specs.Download.{sumsAfter, wroteOf}
 use Rattle.demands.specs.Calls.{Call, Site, called}
-use Rattle.demands.specs.Two.{Asks, StartsAt, Startable}
+use Rattle.demands.specs.One.{Allowed}
+use Rattle.demands.specs.Two.{Asks, StartsAt}
 use Rattle.demands.specs.Two.Form.{upload}
 use Rattle.demands.specs.TwoCommands.{EraseDone, BytesDone}
-use Rattle.demands.specs.Tied.{Step, Keeps, stallsAll, singleReply, doesNothing, allAtFirst, allAtClose, inventsCount, constantSums, constantStart, StartPromise, Impostors}
+use Rattle.demands.specs.Tied.{Step, Keeps, stallsAll, singleReply, doesNothing, doesNothingAt, saysTaken, allAtFirst, allAtClose, inventsCount, constantSums, constantStart, StartPromise, Impostors}
 use Rattle.demands.proofs.Bytes.{blank-byte, spliced-byte}
 use Rattle.demands.proofs.TwoWorks.{EraseWorks-holds, ProgramWorks-holds, written-leaves}
 use Rattle.demands.proofs.TwoRows.{Rows-hold}
 use Rattle.demands.proofs.TwoStarts.{Starts-hold}
-use Rattle.demands.proofs.TwoMet.{small, placed, lent, setups, brings, onOne, so, small-sound, getstate-met, query-met, EraseWorks-met, ProgramWorks-met-start, ProgramWorks-met-piece}
+use Rattle.demands.proofs.TwoMet.{small, placed, lent, setups, brings, onOne, so, small-sound, commanded-over, getstate-met, query-met, EraseWorks-met, ProgramWorks-met-start, ProgramWorks-met-piece}
 
 -- what an impostor that keeps the promise leaves at a call
 at-call : (f : Step) → Keeps f → (at : Site) (c : Call) → f (at .session) (at .flash) (c .setup) (c .bytes) (c .reply) ≡ called at c
@@ -82,9 +83,24 @@ module _ (bytes : List ℕ) (k : Keeps (singleReply bytes)) where
       let four = counts (small 10 0x0F 0 0) query-call ∙ Rows-hold (small 10 0x0F 0 0) query-call .query query-met .answers .count in
       omega arith
 
+-- PROG stores its first byte
+stores : blank 2048 ≡ called (small 2 0 0 0) prog-call .flash → ⊥
+stores kept =
+    let there : getD (called (small 2 0 0 0) prog-call .flash) 1024 0 ≡ 7 = prog-done .flash .inside 0 (omega arith) in
+    omega (arith, sym (blank-byte 2048 1024 (omega arith)) ∙ ap (λ (l : List ℕ). getD l 1024 0) kept ∙ there)
+
 nothing-not : Keeps doesNothing → ⊥
-nothing-not k =
-    let e = ap (λ (l : Leaves). l .outcome .session .phase .state .0) (at-call doesNothing k (small 2 0 0 0) erase-call) in
+unfolding doesNothing
+nothing-not k = stores (ap (λ (l : Leaves). l .flash) (at-call doesNothing k (small 2 0 0 0) prog-call))
+
+programs-not : Keeps (doesNothingAt 1) → ⊥
+unfolding doesNothingAt
+programs-not k = stores (ap (λ (l : Leaves). l .flash) (at-call (doesNothingAt 1) k (small 2 0 0 0) prog-call))
+
+-- ERASE goes to state 3
+said-not : Keeps saysTaken → ⊥
+said-not k =
+    let e = ap (λ (l : Leaves). l .outcome .session .phase .state .0) (at-call saysTaken k (small 2 0 0 0) erase-call) in
     omega (arith, e ∙ erase-done .enters .state)
 
 -- PROG of two bytes that brings the first of them: the byte is there, and the second place is as before
@@ -124,11 +140,7 @@ module _ (held : List ℕ) (k : Keeps (allAtClose held)) where
       ∙ ap (λ (m : Leaves). m .flash) (at-call (allAtClose held) k (small 2 0 0 0) prog-call)
 
   close-not : ⊥
-  close-not =
-      let w = prog-done .flash in
-      let there : getD (called (small 2 0 0 0) prog-call .flash) 1024 0 ≡ 7 = w .inside 0 (omega arith) in
-      let blanked = ap (λ (l : List ℕ). getD l 1024 0) close-kept in
-      omega (arith, sym (blank-byte 2048 1024 (omega arith)) ∙ blanked ∙ there)
+  close-not = stores close-kept
 
 -- the same request at the stream's start and near its end
 upload-asks : (state place : ℕ) → fitOf (placed state 0 0 0 place .session) ≡ true → Asks (placed state 0 0 0 place) upload-call Request.Upload 1000
@@ -203,11 +215,34 @@ last-long : (x : ℕ) → length (last-flash x) ≡ 2048
 unfolding last-flash
 last-long x = spliced-length (blank 2048) 2047 (x ∷ []) (omega (arith, length-blank 2048)) ∙ length-blank 2048
 
+-- ERASE of a block whose last byte is zero
+abbrev marred : Site
+marred = record { session = small 2 0 0 0 .session; flash = last-flash 0 }
+
+marred-erased : EraseDone marred erase-call 1 1
+unfolding appEnd
+marred-erased =
+    EraseWorks-holds marred erase-call 1 1
+    (commanded-over (last-flash 0) (onOne 4 1 0) 4 (last-long 0) (omega arith) (omega arith) refl) (EraseWorks-met .1)
+    (record { some = omega arith; from = omega arith; to = omega arith })
+
+erases-not : Keeps (doesNothingAt 4) → ⊥
+unfolding doesNothingAt last-flash
+erases-not k =
+    let kept : last-flash 0 ≡ called marred erase-call .flash =
+    ap (λ (l : Leaves). l .flash) (at-call (doesNothingAt 4) k marred erase-call)
+    in
+    let zero-there : getD (last-flash 0) 2047 0 ≡ 0 =
+    spliced-byte (blank 2048) 2047 (0 ∷ []) (omega (arith, length-blank 2048)) 0 (omega arith)
+    in
+    let cleared : getD (called marred erase-call .flash) 2047 0 ≡ 255 = marred-erased .flash .inside 1023 (omega arith) in
+    omega (arith, sym zero-there ∙ ap (λ (l : List ℕ). getD l 2047 0) kept ∙ cleared)
+
 module _ (sums : Sums) (k : (flash : List ℕ) (a b part0 part1 : ℕ) → StartPromise flash a b part0 part1 (constantStart sums flash a b part0 part1)) where
   constant-first : (x : ℕ) → sums .whole ≡ byteStep (crcOf (range (blank 2048) 1024 1023)) x
   unfolding constantStart appEnd
   constant-first x =
-      let may : Startable (last-flash x) 1 2 =
+      let may : Allowed (last-flash x) 1 2 =
       record { some-loader = omega arith; some-application = omega arith; few-blocks = omega arith; sized = last-long x }
       in
       ap (λ (o : Outcome). o .session .sums .whole) (k (last-flash x) 1 2 0 0)
@@ -223,9 +258,19 @@ Impostors-fail =
       stalls-everything = stalls-not;
       single-reply = replies-not;
       nothing-done = nothing-not;
+      nothing-programmed = programs-not;
+      nothing-erased = erases-not;
+      nothing-but-said = said-not;
       all-at-first = first-not;
       all-at-close = close-not;
       invented-count = invents-not;
       constant-sums = constant-not;
       constant-start = start-not;
     }
+
+-- an image that is more than one byte, goes into a block and has another second byte than 0xFF
+abbrev two-bytes : List ℕ
+two-bytes = 7 ∷ 8 ∷ []
+
+pub all-at-first-met : (2 ≤ length two-bytes) × (length two-bytes ≤ 1024) × (getD two-bytes 1 0 ≡ 0xFF → ⊥)
+all-at-first-met = (omega arith, omega arith, λ e. omega (arith, e))

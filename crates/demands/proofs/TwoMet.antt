@@ -78,7 +78,7 @@ module _ (state status place left : ℕ) (fit : fitOf (small state status place 
 
 -- a command of a few bytes in state 2, over any flash
 module _ (flash bytes : List ℕ) (code : ℕ) (sized : length flash ≡ 2048) where
-  commanded-over :
+  pub commanded-over :
       length bytes ≤ 1024 → 1 ≤ length bytes → getD bytes 0 0 ≡ code
       → Commanded (record { session = small 2 0 0 0 .session; flash = flash }) (brings bytes) code (length bytes)
   unfolding fitOf streamLength appEnd dataAsked setupOf

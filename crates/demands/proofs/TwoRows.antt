@@ -83,7 +83,7 @@ module _ (at : Site) (c : Call) (n place : ℕ) (k : Asks at c Request.Upload n)
       record {
         answers = so-answers at c Answer.Taken b t (at .flash) l;
         enters = so-enters at c Answer.Taken b t (at .flash) l refl;
-        no-download = ap (λ (x : Session). x .down) session;
+        none-loading = ap (λ (x : Session). x .down) session;
         upload = ap (λ (x : Session). x .up) session;
         sums = ap (λ (x : Session). x .sums) session;
         flash = so-flash at c Answer.Taken b t (at .flash) l;

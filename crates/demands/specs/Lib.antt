@@ -4,5 +4,6 @@ pub mod One
 pub mod Three
 pub mod Two
 pub mod TwoCommands
+pub mod TwoStreams
 pub mod Tied
 pub mod ReadBack

@@ -1,6 +1,6 @@
 -- Demand 3: what holds over any history, a start and then any calls.
 use Prim.Native.Nat.{ℕ, _+_, _≤_, _<_}
-use mathlib.Core.Bool.{Bool, true, cond, _&&_}
+use mathlib.Core.Bool.{Bool, true, false, cond, _&&_}
 use mathlib.Core.List.{List, [], _∷_}
 use mathlib.Core.Logic.{_⊎_}
 use mathlib.Core.Path.{_≡_}
@@ -12,7 +12,7 @@ use Rattle.session.specs.Session.{boardOf, appEnd}
 use Rattle.session.specs.Rules.{fitOf}
 use Rattle.session.specs.declared.Board.{Board}
 use Rattle.session.specs.declared.Session.{Session}
-use Rattle.request.specs.Request.{wordAt, requestOf, rowOf}
+use Rattle.request.specs.Request.{wordAt, requestOf}
 use Rattle.request.specs.declared.Request.{Request}
 use Rattle.moves.specs.Answers.{Leaves}
 use Rattle.command.specs.Download.{longAt}
@@ -64,9 +64,16 @@ eraseNames d = record { at = startOf (wordAt d 2); size = startOf (wordAt d 4) }
 unfoldable pub commandNames : List ℕ → Named
 commandNames d = cond (eqb (getD d 0 0) 1) (progNames d) (cond (eqb (getD d 0 0) 4) (eraseNames d) none)
 
--- DNLOAD, the first row of the form table
+-- DNLOAD, and no other request
 abbrev pub isDnload : Request → Bool
-isDnload r = eqb (rowOf r) 0
+isDnload Request.Dnload = true
+isDnload Request.Upload = false
+isDnload Request.GetStatus = false
+isDnload Request.ClrStatus = false
+isDnload Request.GetState = false
+isDnload Request.Abort = false
+isDnload Request.Query = false
+isDnload Request.Nothing = false
 
 -- a DNLOAD that was taken in a state
 unfoldable pub tookDnload : ℕ → Session → Call → Leaves → Bool

@@ -187,9 +187,21 @@ singleReply bytes s flash setup d reply =
     leaves (outcome (l .outcome .answer) (length bytes) (l .outcome .session)) (l .flash)
     (bytes ++ drop (length bytes) reply)
 
--- one that says taken and does nothing
-abbrev pub doesNothing : Step
-doesNothing s flash setup d reply = leaves (takenOf s) flash reply
+-- one that does nothing: the flash stays, whatever is asked; right in all else, so that the host hears what it hopes for
+unfoldable pub doesNothing : Step
+doesNothing s flash setup d reply =
+    let l = stepOf s flash setup d reply in
+    leaves (l .outcome) flash (l .reply)
+
+-- one that leaves the flash where the data begin with one command's number; right at every other call and in all else
+unfoldable pub doesNothingAt : ℕ → Step
+doesNothingAt code s flash setup d reply =
+    let l = stepOf s flash setup d reply in
+    leaves (l .outcome) (cond (eqb (getD d 0 0) code) flash (l .flash)) (l .reply)
+
+-- one that says taken and leaves the session as it is too
+abbrev pub saysTaken : Step
+saysTaken s flash setup d reply = leaves (takenOf s) flash reply
 
 -- one that does all in the first piece: it knows the image beforehand and stores all of it once a PROG is taken; right in all else
 unfoldable pub allAtFirst : List ℕ → Step
@@ -234,6 +246,10 @@ pub record Impostors : Type 0 where
   pub stalls-everything : Keeps stallsAll → ⊥
   pub single-reply : (bytes : List ℕ) → Keeps (singleReply bytes) → ⊥
   pub nothing-done : Keeps doesNothing → ⊥
+  -- nor at PROG alone, nor at ERASE alone
+  pub nothing-programmed : Keeps (doesNothingAt 1) → ⊥
+  pub nothing-erased : Keeps (doesNothingAt 4) → ⊥
+  pub nothing-but-said : Keeps saysTaken → ⊥
   -- whatever the image, if it is more than the first byte, goes into a block and its second byte is not 0xFF
   pub all-at-first : (image : List ℕ) → 2 ≤ length image → length image ≤ 1024 → (getD image 1 0 ≡ 0xFF → ⊥) → Keeps (allAtFirst image) → ⊥
   pub all-at-close : (held : List ℕ) → Keeps (allAtClose held) → ⊥

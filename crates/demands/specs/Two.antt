@@ -17,6 +17,7 @@ use Rattle.moves.specs.declared.Outcome.{Outcome}
 use Rattle.moves.specs.Answers.{answerNumber}
 use Rattle.loader.specs.Step.{startOutcome}
 use Rattle.demands.specs.Calls.{Call, Site, called}
+use Rattle.demands.specs.One.{Allowed as AllowedStart}
 
 -- the state that a site is in, and the session that a call hands back
 abbrev pub stateOf : Site → ℕ
@@ -125,7 +126,7 @@ nextBytes at place n = take n (drop place (streamOf (at .session .board) (at .se
 pub record Uploads (at : Site) (c : Call) (place n : ℕ) : Type 0 where
   pub answers : Answers at c 0 (nextBytes at place n)
   pub enters : Enters at c 9 0 2
-  pub no-download : handed at c .down ≡ downOf 0 0
+  pub none-loading : handed at c .down ≡ downOf 0 0
   pub upload :
       handed at c .up
       ≡ upOf (at .session .up .choice) (at .session .up .«prefix») (at .session .up .first .0) (at .session .up .len)
@@ -167,13 +168,6 @@ pub record RowsAt (at : Site) (c : Call) : Type 0 where
 abbrev pub Rows : Type 0
 Rows = (at : Site) (c : Call) → RowsAt at c
 
--- what a start must be handed: 1 ≤ A < B ≤ most blocks, and a flash of B blocks
-pub record Startable (flash : List ℕ) (a b : ℕ) : Type 0 where
-  pub some-loader : 1 ≤ a
-  pub some-application : a < b
-  pub few-blocks : b ≤ mostBlocks
-  pub sized : length flash ≡ startOf b
-
 -- a fresh start: answer 0, state 2, prefix on, read range all of the application, sums those of the flash
 pub record Fresh (flash : List ℕ) (a b part0 part1 : ℕ) (o : Outcome) : Type 0 where
   pub answer : answerNumber (o .answer) ≡ 0
@@ -196,6 +190,6 @@ pub record Zeros (o : Outcome) : Type 0 where
 
 pub record Starts : Type 0 where
   pub taken :
-      (flash : List ℕ) (a b part0 part1 : ℕ) → Startable flash a b
+      (flash : List ℕ) (a b part0 part1 : ℕ) → AllowedStart flash a b
       → Fresh flash a b part0 part1 (startOutcome flash a b part0 part1)
-  pub refused : (flash : List ℕ) (a b part0 part1 : ℕ) → (Startable flash a b → ⊥) → Zeros (startOutcome flash a b part0 part1)
+  pub refused : (flash : List ℕ) (a b part0 part1 : ℕ) → (AllowedStart flash a b → ⊥) → Zeros (startOutcome flash a b part0 part1)
