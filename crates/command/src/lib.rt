@@ -96,9 +96,9 @@ fn write(s: Session, flash: &mut [u8], at: Addr, bytes: &[u8], left: u32) -> Out
     };
     moves::taken(moves::moved(
         t,
-        State::DOWNLOAD_SYNC,
-        Status::OK,
-        State::DOWNLOAD_IDLE,
+        State(State::DOWNLOAD_SYNC),
+        Status(Status::OK),
+        State(State::DOWNLOAD_IDLE),
         down,
     ))
 }

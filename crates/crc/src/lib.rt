@@ -5,7 +5,7 @@ ghost use Rattle.crc.specs.Crc.{byteStep, crcFrom, crcOf, remainders};
 mod remainders;
 
 // Where a sum starts.
-const START: u32 = 0xFFFF_FFFF;
+pub const START: u32 = 0xFFFF_FFFF;
 
 // Eight bits of the division at once: the low byte picks its remainder, and the rest moves down.
 fn byte_step(remainder: &[u32; 256], running: u32, byte: u8) -> u32

@@ -41,13 +41,13 @@ pub fn number(answer: Answer) -> u32
 }
 
 // The session in another state than upload idle: an upload that ran is over.
-pub fn moved(s: Session, state: u8, status: u8, after: u8, down: Download) -> Session
-    ensures { λ r. ⌜ r ≡ movedTo s (phaseOf state status after) down ⌝ }
+pub fn moved(s: Session, state: State, status: Status, after: State, down: Download) -> Session
+    ensures { λ r. ⌜ r ≡ movedTo s (phaseOf (state .0) (status .0) (after .0)) down ⌝ }
 {
     let mut t = s;
-    t.phase.state.0 = state;
-    t.phase.status.0 = status;
-    t.phase.after.0 = after;
+    t.phase.state.0 = state.0;
+    t.phase.status.0 = status.0;
+    t.phase.after.0 = after.0;
     t.down = down;
     t.up.place = 0;
     t
@@ -65,27 +65,51 @@ fn none() -> Download
 pub fn idle(s: Session) -> Session
     ensures { λ r. ⌜ r ≡ toIdle s ⌝ }
 {
-    moved(s, State::IDLE, Status::OK, State::IDLE, none())
+    moved(
+        s,
+        State(State::IDLE),
+        Status(Status::OK),
+        State(State::IDLE),
+        none(),
+    )
 }
 
 pub fn error(s: Session, status: u8) -> Session
     ensures { λ r. ⌜ r ≡ toError s status ⌝ }
 {
-    moved(s, State::ERROR, status, State::IDLE, none())
+    moved(
+        s,
+        State(State::ERROR),
+        Status(status),
+        State(State::IDLE),
+        none(),
+    )
 }
 
 // Download sync that leads back to idle: no download runs.
 pub fn sync(s: Session) -> Session
     ensures { λ r. ⌜ r ≡ toSync s 2 (downOf 0 0) ⌝ }
 {
-    moved(s, State::DOWNLOAD_SYNC, Status::OK, State::IDLE, none())
+    moved(
+        s,
+        State(State::DOWNLOAD_SYNC),
+        Status(Status::OK),
+        State(State::IDLE),
+        none(),
+    )
 }
 
 // Manifest sync: the download is closed.
 pub fn manifest(s: Session) -> Session
     ensures { λ r. ⌜ r ≡ movedTo s (phaseOf 6 0 2) (downOf 0 0) ⌝ }
 {
-    moved(s, State::MANIFEST_SYNC, Status::OK, State::IDLE, none())
+    moved(
+        s,
+        State(State::MANIFEST_SYNC),
+        Status(Status::OK),
+        State(State::IDLE),
+        none(),
+    )
 }
 
 pub fn taken(s: Session) -> Outcome

@@ -7,9 +7,6 @@ ghost use Rattle.crc.specs.Crc.{crcOf};
 ghost use Rattle.stream.specs.Stream.{bytes4};
 ghost use Rattle.script.specs.Turn.{sumBytes, lineOf};
 
-// Where a sum starts.
-const START: u32 = 0xFFFF_FFFF;
-
 // The last three are the sums of the kept block sums, of the whole reply buffer and of the flash.
 pub struct Line {
     pub answer: u32,
@@ -37,7 +34,7 @@ fn low4(n: u32) -> [u8; 4]
 fn sum_of_sums(block: &[u32; MOST]) -> u32
     ensures { λ r. ⌜ r ≡ crcOf (sumBytes (now (block .entry))) ⌝ }
 {
-    let mut sum = START;
+    let mut sum = crc::START;
     let mut i = 0;
     while i < MOST {
         let bytes = low4(block[i]);
