@@ -1,13 +1,16 @@
 # The two commands of the README are demo and test. Everything else serves them.
 CARGO = cargo --quiet
 HOST = $(CARGO) run --release --offline --manifest-path host/Cargo.toml --bin
+BOARD = $(CARGO) run --release --offline --manifest-path host/Cargo.toml -p mullirim-board --bin
 SOURCES := crates.txt $(shell find crates -name '*.rt' -o -name '*.antt')
 
-.PHONY: test demo expected host layout library example
+CHECKED = -std=c11 -g -O1 -Wall -Wextra -DCHECKED -fsanitize=address,undefined -fno-sanitize-recover=all -Iinclude
+
+.PHONY: test demo soak expected host layout library example differ faults replay checked
 
 # The gate: the second loader's own tests, the stored outputs against it, the calls for C and Rust, then every proof, every edit that
 # must fail and every program, from nothing. The last line is the prover's own count.
-test: host expected layout example
+test: host expected layout example differ faults replay checked
 	rt ci
 
 host: build/libboard.a
@@ -34,7 +37,35 @@ build/libboard.a: $(SOURCES) tools/library
 # The board in forty lines, on the library as it ships. What it must print was worked out from the paper by hand.
 example: build/libboard.a
 	tools/shipped build/example examples/board.c
-	tools/run build/example | cmp - examples/board.out
+	tools/run build/example > build/example.out
+	cmp build/example.out examples/board.out
+
+# The proved loader beside the second one, call by call, over every split; stops by itself. `soak` goes on until it is stopped.
+differ: build/libboard.a
+	$(BOARD) differ
+
+soak: build/libboard.a
+	$(BOARD) differ -- --soak --seed $$(date +%s)
+
+# The comparison finds what it is there to find.
+faults: build/libboard.a
+	tools/faults
+
+# The same kind of histories from C, on the library as it ships, each buffer beside pages that trap.
+replay: build/libboard.a
+	tools/shipped build/replay tests/replay.c
+	$(HOST) tape -- 20261116 1200 | tools/run build/replay
+
+# And under AddressSanitizer and UndefinedBehaviorSanitizer, which must speak up where a board breaks its word.
+checked: build/libboard.a
+	$(CC) $(CHECKED) examples/board.c build/checked/libboard.a -o build/checked/example
+	build/checked/example > build/checked/example.out
+	cmp build/checked/example.out examples/board.out
+	$(CC) $(CHECKED) tests/replay.c build/checked/libboard.a -o build/checked/replay
+	$(HOST) tape -- 20261117 300 | build/checked/replay
+	$(CC) $(CHECKED) tests/liar.c build/checked/libboard.a -o build/checked/liar
+	! build/checked/liar 2> build/checked/liar.said
+	grep -q 'AddressSanitizer: heap-buffer-overflow' build/checked/liar.said
 
 # Proves the loader, plays a session through it and shows what each request was answered.
 demo:

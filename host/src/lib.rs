@@ -1,4 +1,8 @@
-//! The second loader and what its two programs share.
+//! The second loader, and the calls to try both loaders with.
 
+pub mod dice;
+pub mod histories;
+pub mod requests;
 pub mod second;
+pub mod sessions;
 pub mod tape;

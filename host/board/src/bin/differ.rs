@@ -1,0 +1,132 @@
+//! Compares the proved loader with the second one, call by call: answer, count,
+//! every field of the session, every byte of flash and reply. The first
+//! difference ends the run.
+
+#[path = "differ/compare.rs"]
+mod compare;
+#[path = "differ/tally.rs"]
+mod tally;
+
+use compare::Pair;
+use std::process::ExitCode;
+use std::time::{Duration, Instant};
+use tally::Tally;
+
+const HELP: &str = "\
+differ [--seed N] [--first N] [--requests N | --soak]
+  --seed N      the seed of all histories (default 20261115)
+  --first N     the number of the first history (default 0)
+  --requests N  stop after the history in which the Nth request falls (default 400000)
+  --soak        go on until stopped, with a line of progress each second";
+
+struct Wish {
+    seed: u64,
+    first: u64,
+    requests: u64,
+    soak: bool,
+}
+
+fn main() -> ExitCode {
+    let words: Vec<String> = std::env::args().skip(1).collect();
+    if words.iter().any(|word| word == "--help") {
+        println!("{HELP}");
+        return ExitCode::SUCCESS;
+    }
+    match wished(&words) {
+        Ok(wish) => run(&wish),
+        Err(word) => {
+            eprintln!("differ: {word}\n{HELP}");
+            ExitCode::from(2)
+        }
+    }
+}
+
+fn wished(words: &[String]) -> Result<Wish, String> {
+    let mut wish = Wish {
+        seed: 20_261_115,
+        first: 0,
+        requests: 400_000,
+        soak: false,
+    };
+    let mut words = words.iter();
+    while let Some(word) = words.next() {
+        let place = match word.as_str() {
+            "--soak" => {
+                wish.soak = true;
+                continue;
+            }
+            "--seed" => &mut wish.seed,
+            "--first" => &mut wish.first,
+            "--requests" => &mut wish.requests,
+            _ => return Err(format!("{word} is not known")),
+        };
+        let number = words.next().and_then(|number| number.parse().ok());
+        *place = number.ok_or(format!("{word} wants a number"))?;
+    }
+    Ok(wish)
+}
+
+fn run(wish: &Wish) -> ExitCode {
+    println!("seed {}, from history {}", wish.seed, wish.first);
+    let mut tally = Tally::new();
+    let mut shown = Instant::now();
+    for number in wish.first.. {
+        if let Err(difference) = Pair::new(wish.seed, number).play(&mut tally) {
+            println!("request {}: {difference}", tally.requests);
+            println!("again: --seed {} --first {number}", wish.seed);
+            return ExitCode::FAILURE;
+        }
+        if wish.soak && shown.elapsed() >= Duration::from_secs(1) {
+            println!("{} requests, {} histories", tally.requests, tally.starts);
+            shown = Instant::now();
+        }
+        if !wish.soak && tally.requests >= wish.requests {
+            break;
+        }
+    }
+    finish(&tally)
+}
+
+/// A run that never met some answer, state or status has compared too little.
+fn finish(tally: &Tally) -> ExitCode {
+    println!("{tally}");
+    match tally.missed() {
+        None => ExitCode::SUCCESS,
+        Some(missed) => {
+            println!("no difference, but never met: {missed}");
+            ExitCode::FAILURE
+        }
+    }
+}
+
+#[cfg(test)]
+mod tests {
+    use super::*;
+
+    fn read(words: &[&str]) -> Result<Wish, String> {
+        let words: Vec<String> = words.iter().map(|word| word.to_string()).collect();
+        wished(&words)
+    }
+
+    #[test]
+    fn words_are_read() {
+        let wish = read(&["--seed", "7", "--soak", "--first", "9"])
+            .ok()
+            .unwrap();
+        assert_eq!((wish.seed, wish.first, wish.soak), (7, 9, true));
+        assert_eq!(wish.requests, 400_000);
+        assert!(read(&["--seed"]).is_err_and(|word| word == "--seed wants a number"));
+        assert!(read(&["--requests", "x"]).is_err());
+        assert!(read(&["--sed", "7"]).is_err_and(|word| word == "--sed is not known"));
+    }
+
+    #[test]
+    fn two_thousand_requests_agree_and_meet_everything() {
+        let mut tally = Tally::new();
+        for number in 0..20 {
+            assert_eq!(Pair::new(3, number).play(&mut tally), Ok(()));
+        }
+        assert!(tally.requests >= 2_000);
+        assert_eq!(tally.missed(), None);
+    }
+}

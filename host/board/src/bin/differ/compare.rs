@@ -1,0 +1,100 @@
+//! The two loaders side by side through one history.
+
+use crate::tally::Tally;
+use mullirim_board::{request, start, Session};
+use mullirim_host::histories::{Call, History, REPLY_ROOM};
+use mullirim_host::second;
+
+/// What the proved loader left and what the second one awaits.
+type Same = Result<(), String>;
+
+pub struct Pair {
+    history: History,
+    /// The proved loader's own flash and reply. They live on from call to
+    /// call, so that a byte astray is seen at once and stays seen.
+    flash: Vec<u8>,
+    reply: [u8; REPLY_ROOM],
+    awaited: [u8; REPLY_ROOM],
+}
+
+impl Pair {
+    pub fn new(seed: u64, number: u64) -> Pair {
+        let history = History::new(seed, number);
+        Pair {
+            flash: history.flash.clone(),
+            history,
+            reply: [0xEE; REPLY_ROOM],
+            awaited: [0xEE; REPLY_ROOM],
+        }
+    }
+
+    pub fn play(&mut self, tally: &mut Tally) -> Same {
+        self.start(tally)?;
+        for _ in 0..self.history.length {
+            let call = self.history.call();
+            self.call(&call, tally)
+                .map_err(|difference| format!("{difference}\n{}", described(&call)))?;
+        }
+        Ok(())
+    }
+
+    fn start(&mut self, tally: &mut Tally) -> Same {
+        let (call, answer) = self.history.start();
+        let lent = &self.flash[..call.lent];
+        let started = start(lent, call.a, call.b, call.part0, call.part1);
+        tally.start(answer);
+        same("start's answer", &started.code, &u32::from(answer))?;
+        same_session(&started.session, &self.history.session)?;
+        same_bytes("flash", &self.flash, &self.history.flash)
+    }
+
+    fn call(&mut self, call: &Call, tally: &mut Tally) -> Same {
+        let mut session = Session::from(&call.session);
+        let flash = &mut self.flash[..call.lent];
+        let reply = &mut self.reply[..call.room];
+        let answer = request(&mut session, flash, &call.setup, &call.data, reply);
+        let awaited = self.history.serve(call, &mut self.awaited);
+        tally.request(&call.session, &awaited);
+        same("answer", &answer.code, &u32::from(awaited.answer))?;
+        same("count", &answer.count, &awaited.count)?;
+        same_session(&session, &awaited.session)?;
+        same_bytes("flash", &self.flash, &self.history.flash)?;
+        same_bytes("reply", &self.reply, &self.awaited)
+    }
+}
+
+fn same<T: PartialEq + std::fmt::Debug>(what: &str, left: &T, awaited: &T) -> Same {
+    match left == awaited {
+        true => Ok(()),
+        false => Err(format!("{what} is {left:?}, awaited {awaited:?}")),
+    }
+}
+
+fn same_session(left: &Session, awaited: &second::Session) -> Same {
+    same("session", &second::Session::from(left), awaited)
+}
+
+fn same_bytes(what: &str, left: &[u8], awaited: &[u8]) -> Same {
+    if left == awaited {
+        return Ok(());
+    }
+    let place = (0..left.len()).find(|place| left[*place] != awaited[*place]);
+    let place = place.expect("two lengths that are equal");
+    same(
+        &format!("byte {place} of the {what}"),
+        &left[place],
+        &awaited[place],
+    )
+}
+
+fn described(call: &Call) -> String {
+    let head = &call.data[..call.data.len().min(16)];
+    format!(
+        "setup {:02X?}, {} data bytes from {head:02X?}, reply room {}, {} bytes of flash, {:?}",
+        call.setup,
+        call.data.len(),
+        call.room,
+        call.lent,
+        call.session
+    )
+}

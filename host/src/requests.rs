@@ -1,0 +1,275 @@
+//! Pseudo-random requests. They look at the session that they will meet, so that
+//! more often than not its state takes them.
+
+use crate::dice::Dice;
+use crate::second::{command, state, Session, BLOCK, ERASED};
+use crate::tape::{header, setup};
+
+/// The setup bytes and the data.
+pub type Request = (Vec<u8>, Vec<u8>);
+
+/// A request for a fit session.
+pub fn choose(dice: &mut Dice, session: &Session, flash: &[u8]) -> Request {
+    match dice.below(24) {
+        0 => strange(dice),
+        1 => {
+            let call = sensible(dice, session, flash);
+            damaged(dice, call)
+        }
+        2 => any_request(dice),
+        3 => border(dice, session),
+        _ => sensible(dice, session, flash),
+    }
+}
+
+fn request(kind: u8, number: u8, length: u32) -> Request {
+    (setup(kind, number, length as u16).to_vec(), Vec::new())
+}
+
+fn dnload(data: Vec<u8>) -> Request {
+    (setup(0x21, 1, data.len() as u16).to_vec(), data)
+}
+
+/// A request of good form, with no thought for the state.
+pub fn any_request(dice: &mut Dice) -> Request {
+    match dice.below(9) {
+        0 => dnload(Vec::new()),
+        1 => {
+            let length = 1 + dice.below(24);
+            dnload(dice.bytes(length))
+        }
+        2 => request(0xA1, 2, 1 + dice.below(1_024)),
+        3 => request(0xA1, 2, 1_024),
+        4 => request(0xA1, 3, 6),
+        5 => request(0x21, 4, 0),
+        6 => request(0xA1, 5, 1),
+        7 => request(0x21, 6, 0),
+        _ => (vec![0xA1, 0x42, 0x23, 0, 0, 0, 4, 0], Vec::new()),
+    }
+}
+
+/// Bytes that mean nothing, or next to it.
+fn strange(dice: &mut Dice) -> Request {
+    let kind = [0x21, 0xA1, 0x80, 0x00][dice.below(4) as usize];
+    let number = [0, 1, 2, 3, 4, 5, 6, 7, 0x42][dice.below(9) as usize];
+    match dice.below(5) {
+        0 => (dice.bytes(8), Vec::new()),
+        1 => request(kind, number, dice.below(8)),
+        2 => request(0xA1, 2, [0, 1_025, 65_535][dice.below(3) as usize]),
+        3 => dnload(dice.bytes(1_025)),
+        _ => {
+            let length = dice.below(12);
+            (dice.bytes(length), Vec::new())
+        }
+    }
+}
+
+/// A length at a border: of the eight bytes of a command, of a request, of the
+/// first data of a PROG, or of what the download still awaits.
+fn border_length(dice: &mut Dice, left: u32) -> u32 {
+    let left = left.min(2_000);
+    let borders = [
+        0,
+        1,
+        7,
+        8,
+        9,
+        1_015,
+        1_016,
+        1_017,
+        1_023,
+        1_024,
+        1_025,
+        left.saturating_sub(1),
+        left,
+        left + 1,
+    ];
+    borders[dice.below(borders.len() as u32) as usize]
+}
+
+/// A transfer of such a length: an upload, any data, or a PROG at the start of
+/// the application whose data is its length, one byte less or one more.
+fn border(dice: &mut Dice, session: &Session) -> Request {
+    let length = border_length(dice, session.down_left);
+    if dice.below(3) == 0 {
+        return request(0xA1, 2, length);
+    }
+    let mut data = dice.bytes(length);
+    if dice.below(2) == 0 && length >= 8 {
+        let named = (length - 8 + dice.below(3)).wrapping_sub(1);
+        data[..8].copy_from_slice(&header(command::PROG, session.a as u16, named));
+    }
+    dnload(data)
+}
+
+/// A good call with one thing wrong, or with one ignored byte changed.
+fn damaged(dice: &mut Dice, (mut setup, mut data): Request) -> Request {
+    match dice.below(6) {
+        0 => setup.truncate(dice.below(8) as usize),
+        1 => setup.push(0),
+        2 => data.push(0),
+        3 => data.truncate(data.len() / 2),
+        4 => setup[2 + dice.below(2) as usize] = 1 + dice.below(255) as u8,
+        _ => setup[dice.below(8) as usize] ^= 1 << dice.below(8),
+    }
+    (setup, data)
+}
+
+fn sensible(dice: &mut Dice, session: &Session, flash: &[u8]) -> Request {
+    let roll = dice.below(10);
+    match (session.state, roll) {
+        (_, 0) => any_status(dice),
+        (state::IDLE, 1..=2) => upload(dice),
+        (state::IDLE, _) => dnload(a_command(dice, session, flash)),
+        (state::DOWN_SYNC | state::MANIFEST_SYNC, 1) => any_request(dice),
+        (state::DOWN_SYNC | state::MANIFEST_SYNC, _) => request(0xA1, 3, 6),
+        (state::DOWN_IDLE, 1) if session.down_left > 0 => request(0x21, 6, 0),
+        (state::DOWN_IDLE, _) => dnload(piece(dice, session.down_left)),
+        (state::UP_IDLE, 1..=2) => request(0x21, 6, 0),
+        (state::UP_IDLE, _) => upload(dice),
+        _ => request(0x21, 4, 0),
+    }
+}
+
+fn any_status(dice: &mut Dice) -> Request {
+    match dice.below(3) {
+        0 => request(0xA1, 3, 6),
+        1 => request(0xA1, 5, 1),
+        _ => (vec![0xA1, 0x42, 0x23, 0, 0, 0, 4, 0], Vec::new()),
+    }
+}
+
+fn upload(dice: &mut Dice) -> Request {
+    match dice.below(8) {
+        0 => request(0xA1, 2, 1_023),
+        1..=2 => request(0xA1, 2, 1 + dice.below(1_024)),
+        _ => request(0xA1, 2, 1_024),
+    }
+}
+
+/// The next data of a download: mostly what it still awaits, now and then too
+/// much, or a closing before its time.
+fn piece(dice: &mut Dice, left: u32) -> Vec<u8> {
+    let most = left.min(1_024);
+    let length = match dice.below(12) {
+        0 => 0,
+        1 => (left + 1).min(1_024),
+        2..=6 => dice.below(most + 1),
+        _ => most,
+    };
+    dice.bytes(length)
+}
+
+fn a_command(dice: &mut Dice, session: &Session, flash: &[u8]) -> Vec<u8> {
+    let (block, count) = blocks(dice, session);
+    match dice.below(20) {
+        0..=3 => header(command::ERASE, block, count).to_vec(),
+        4..=11 => prog(dice, session, flash),
+        12..=13 => ranged(dice, session, command::READ),
+        14 => ranged(dice, session, command::CHECK),
+        15 => check_erased(dice, session, flash),
+        16 => header(command::INFO, block, count).to_vec(),
+        17 => vec![command::BIN, dice.below(3) as u8, 1, 2, 3, 4, 5, 6],
+        18 => header(command::RESET, block, count).to_vec(),
+        _ => {
+            let length = 1 + dice.below(16);
+            [vec![dice.below(10) as u8], dice.bytes(length)].concat()
+        }
+    }
+}
+
+/// Blocks to erase: a few, often up to the very end, at times past it. The
+/// high half of the count is sometimes set, since ERASE must not read it.
+fn blocks(dice: &mut Dice, session: &Session) -> (u16, u32) {
+    let room = session.b - session.a;
+    let offset = dice.below(room);
+    let count = match dice.below(10) {
+        0 => 0,
+        1 => room - offset + 1,
+        2 => room - offset,
+        _ => 1 + dice.below((room - offset).min(4)),
+    };
+    let high = match dice.below(6) {
+        0 => dice.below(65_536) << 16,
+        _ => 0,
+    };
+    ((session.a + offset) as u16, count | high)
+}
+
+/// A block and length for READ or CHECK, near every edge of the application.
+fn ranged(dice: &mut Dice, session: &Session, number: u8) -> Vec<u8> {
+    let room = session.b - session.a;
+    let offset = dice.below(room);
+    let bytes = (room - offset) * BLOCK;
+    let block = (session.a + offset) as u16;
+    let (block, length) = match dice.below(12) {
+        0 => (block, 0),
+        1 => (block, bytes + 1),
+        2 => (block, u32::MAX - dice.below(70_000)),
+        3 => (session.a as u16 - 1, 1 + dice.below(2_000)),
+        4 => (session.b as u16, 1),
+        5 => (dice.below(65_536) as u16, 1 + dice.below(2_000)),
+        6 => (block, bytes),
+        _ => (block, 1 + dice.below(bytes.min(3_000))),
+    };
+    header(number, block, length).to_vec()
+}
+
+/// The first erased block from a random one on, and how many bytes are erased
+/// from there without a break, up to four blocks.
+fn erased_run(dice: &mut Dice, session: &Session, flash: &[u8]) -> Option<(u16, u32)> {
+    let from = session.a + dice.below(session.b - session.a);
+    let found = (from..session.b).find(|block| {
+        let place = (block * BLOCK) as usize;
+        flash[place..place + BLOCK as usize]
+            .iter()
+            .all(|byte| *byte == ERASED)
+    })?;
+    let rest = &flash[(found * BLOCK) as usize..];
+    let run = rest.iter().take(4_096).take_while(|byte| **byte == ERASED);
+    Some((found as u16, run.count() as u32))
+}
+
+fn check_erased(dice: &mut Dice, session: &Session, flash: &[u8]) -> Vec<u8> {
+    match erased_run(dice, session, flash) {
+        Some((block, run)) => header(command::CHECK, block, run + dice.below(2)).to_vec(),
+        None => ranged(dice, session, command::CHECK),
+    }
+}
+
+/// A PROG over erased flash where there is some, with first data that fits
+/// its length most times.
+fn prog(dice: &mut Dice, session: &Session, flash: &[u8]) -> Vec<u8> {
+    let run = erased_run(dice, session, flash);
+    let (block, run) = match (dice.below(6), run) {
+        (1.., Some(found)) => found,
+        _ => return prog_anywhere(dice, session),
+    };
+    let length = match dice.below(5) {
+        0 => run + dice.below(2),
+        1 => 1 + dice.below(40),
+        _ => 1 + dice.below(run),
+    };
+    let first = match dice.below(10) {
+        0 => (length + 1).min(1_016),
+        1..=3 => 0,
+        4 => length.min(1_016),
+        _ => dice.below(length.min(1_016) + 1),
+    };
+    [
+        header(command::PROG, block, length).to_vec(),
+        dice.bytes(first),
+    ]
+    .concat()
+}
+
+/// A PROG wherever it falls, at times also with more data than its length.
+fn prog_anywhere(dice: &mut Dice, session: &Session) -> Vec<u8> {
+    let mut data = ranged(dice, session, command::PROG);
+    if dice.below(2) == 0 {
+        data[4..8].copy_from_slice(&[1 + dice.below(8) as u8, 0, 0, 0]);
+    }
+    let first = dice.below(16);
+    data.extend(dice.bytes(first));
+    data
+}

@@ -1,0 +1,176 @@
+/*
+ * Plays a tape of calls through the library and holds all that each call leaves to what the tape says. The tape comes on standard
+ * input, from host/src/bin/tape.rs; its numbers are little-endian.
+ *
+ *   'S' flash length lent, first, blocks, part, klass (32 bits each), ROOM bytes of flash; answer (8 bits), session
+ *   'R' session; lengths of flash, setup, data and reply (32 bits each), setup, data;
+ *       answer (8 bits), count (32 bits), as many bytes of reply, session, change: place, length (32 bits each) and bytes
+ *   'E' the number of all requests (32 bits)
+ *
+ * What a call is lent stands alone: beside pages that trap on any touch, at one call right before the upper one and at the next right
+ * behind the lower one; or, built with CHECKED for AddressSanitizer, in a heap block of just that size.
+ */
+#define _DEFAULT_SOURCE
+#include <stdio.h>
+#include <stdlib.h>
+#include <string.h>
+#include <sys/mman.h>
+#include "mullirim.h"
+
+enum { ROOM = (MULLIRIM_MOST_BLOCKS + 1) * MULLIRIM_BLOCK, REPLY = 2 * MULLIRIM_REPLY_ROOM, SETUP = 16, DATA = 65536, GUARD = 65536 };
+
+static uint32_t requests;
+static uint8_t flash[ROOM], reply[REPLY], setup[SETUP], data[DATA];
+
+static void fail(const char *what)
+{
+    printf("request %u: %s\n", (unsigned)requests, what);
+    exit(1);
+}
+
+static void read_bytes(void *to, size_t len)
+{
+    if (fread(to, 1, len, stdin) != len)
+        fail("the tape ends early");
+}
+
+static uint32_t read_number(size_t most)
+{
+    uint8_t b[4];
+
+    read_bytes(b, 4);
+    uint32_t n = b[0] | (uint32_t)b[1] << 8 | (uint32_t)b[2] << 16 | (uint32_t)b[3] << 24;
+    if (n > most)
+        fail("the tape has a number out of bounds");
+    return n;
+}
+
+/* A place of its own for what is lent, with a copy of what it holds. */
+struct loan {
+    uint8_t *pages, *at;
+};
+
+static uint8_t *lend(struct loan *l, const void *from, size_t len)
+{
+#ifdef CHECKED
+    l->at = malloc(len ? len : 1);
+    if (!l->at)
+        fail("no memory");
+    if (!len)
+        l->at++;
+#else
+    enum { SPAN = 2 * 65536 };
+    if (!l->pages) {
+        l->pages = mmap(NULL, SPAN + 2 * GUARD, PROT_NONE, MAP_PRIVATE | MAP_ANONYMOUS, -1, 0);
+        if (l->pages == MAP_FAILED || mprotect(l->pages + GUARD, SPAN, PROT_READ | PROT_WRITE))
+            fail("no memory");
+    }
+    l->at = l->pages + GUARD + (requests % 2 ? 0 : SPAN - len);
+#endif
+    memcpy(l->at, from, len);
+    return l->at;
+}
+
+static void give_back(struct loan *l, void *to, size_t len)
+{
+    memcpy(to, l->at, len);
+#ifdef CHECKED
+    free(len ? l->at : l->at - 1);
+#endif
+}
+
+/* Field by field, since padding may hold anything. */
+static void same_session(const struct mullirim_session *s)
+{
+    struct mullirim_session t;
+
+    read_bytes(&t, sizeof t);
+    if (memcmp(&s->board, &t.board, sizeof t.board) || memcmp(&s->phase, &t.phase, sizeof t.phase))
+        fail("board or phase of the session");
+    if (memcmp(&s->download, &t.download, sizeof t.download) || memcmp(&s->sums, &t.sums, sizeof t.sums))
+        fail("download or sums of the session");
+    if (s->upload.choice != t.upload.choice || s->upload.prefix != t.upload.prefix || s->upload.first != t.upload.first ||
+        s->upload.len != t.upload.len || s->upload.place != t.upload.place)
+        fail("upload of the session");
+}
+
+static void play_start(void)
+{
+    static uint8_t after[ROOM];
+    static struct loan f;
+    size_t len = read_number(ROOM);
+    uint16_t first = (uint16_t)read_number(65535), blocks = (uint16_t)read_number(65535);
+    uint32_t part = read_number(UINT32_MAX), klass = read_number(UINT32_MAX);
+    uint8_t code;
+
+    read_bytes(flash, ROOM);
+    read_bytes(&code, 1);
+    memset(reply, 0xEE, REPLY);
+    struct mullirim_started s = mullirim_start(lend(&f, flash, len), len, first, blocks, part, klass);
+    give_back(&f, after, len);
+    if (s.code != code)
+        fail("answer of a start");
+    if (memcmp(flash, after, len))
+        fail("a start changed the flash");
+    same_session(&s.session);
+}
+
+/* The outcome, once the tape's own change is made to `flash` and its reply to `reply`. */
+static void same_outcome(struct mullirim_answer a, const struct mullirim_session *s, const uint8_t *f, size_t flash_len, const uint8_t *r,
+                         size_t reply_len)
+{
+    uint8_t code;
+
+    read_bytes(&code, 1);
+    uint32_t count = read_number(reply_len);
+    if (a.code != code || a.count != count)
+        fail("answer or count");
+    read_bytes(reply, count);
+    if (memcmp(r, reply, reply_len))
+        fail("reply");
+    same_session(s);
+    uint32_t place = read_number(flash_len);
+    read_bytes(flash + place, read_number(flash_len - place));
+    if (memcmp(f, flash, flash_len))
+        fail("flash");
+}
+
+static void play_request(void)
+{
+    static uint8_t flash_after[ROOM], reply_after[REPLY];
+    static struct loan s, f, u, d, r;
+    struct mullirim_session session;
+
+    requests++;
+    read_bytes(&session, sizeof session);
+    size_t flash_len = read_number(ROOM), setup_len = read_number(SETUP), data_len = read_number(DATA), reply_len = read_number(REPLY);
+    read_bytes(setup, setup_len);
+    read_bytes(data, data_len);
+    struct mullirim_session *lent = (void *)lend(&s, &session, sizeof session);
+    struct mullirim_answer a = mullirim_request(lent, lend(&f, flash, flash_len), flash_len, lend(&u, setup, setup_len), setup_len,
+                                                lend(&d, data, data_len), data_len, lend(&r, reply, reply_len), reply_len);
+    give_back(&s, &session, sizeof session);
+    give_back(&f, flash_after, flash_len);
+    give_back(&u, setup, setup_len);
+    give_back(&d, data, data_len);
+    give_back(&r, reply_after, reply_len);
+    same_outcome(a, &session, flash_after, flash_len, reply_after, reply_len);
+}
+
+int main(void)
+{
+    uint32_t starts = 0;
+
+    for (int kind = getchar(); kind != 'E'; kind = getchar()) {
+        if (kind == 'S')
+            play_start(), starts++;
+        else if (kind == 'R')
+            play_request();
+        else
+            fail("the tape has no such record");
+    }
+    if (read_number(UINT32_MAX) != requests || getchar() != EOF)
+        fail("the tape does not end as it says");
+    printf("%u requests after %u starts replayed: all as on the tape\n", (unsigned)requests, (unsigned)starts);
+    return 0;
+}
