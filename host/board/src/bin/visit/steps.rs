@@ -211,6 +211,10 @@ mod tests {
             left.resize(2_048 + length, 0x42);
             left.resize(4_096, 0xFF);
             assert_eq!((went, wire.flash == left), (Ok(()), true));
+            assert_eq!(
+                (wire.session.phase.state, wire.session.phase.status),
+                (2, 0)
+            );
             let sums = wire.session.sums;
             let blocks = [sum(&left[2_048..3_072]), sum(&left[3_072..])];
             assert_eq!(sums.block[..4], [0, 0, blocks[0], blocks[1]]);
@@ -267,6 +271,30 @@ mod tests {
     }
 
     #[test]
+    fn a_stream_without_its_header_ends_the_visit_before_the_erase() {
+        let plan = plan(vec![1]);
+        let mut wire = wire(&plan);
+        wire.session.upload.prefix = 0;
+        let went = serve(&mut wire, &plan, &mut Screen::new(Vec::new(), false));
+        let why = "ended at step 2, read back: \
+                   the bytes read do not begin with the header of the range";
+        assert_eq!(went, Err(why.to_string()));
+        assert_eq!(wire.flash, plan.flash);
+    }
+
+    /// No request touches the sum kept for a block outside the application.
+    #[test]
+    fn a_wrong_sum_ends_the_visit_at_the_check() {
+        let plan = plan(vec![1]);
+        let mut wire = wire(&plan);
+        wire.session.sums.block[1] = 7;
+        let went = serve(&mut wire, &plan, &mut Screen::new(Vec::new(), false));
+        let why = "ended at step 6, check: the sums do not agree: \
+                   that of block 1 is kept as 00000007, a fresh start finds 00000000";
+        assert_eq!(went, Err(why.to_string()));
+    }
+
+    #[test]
     fn a_flash_that_is_not_erased_takes_no_download() {
         let plan = plan(vec![1]);
         let went = download(&mut wire(&plan), &plan, &mut Screen::new(Vec::new(), false));
@@ -296,6 +324,16 @@ mod tests {
             wire.flash[byte] ^= 1;
         }
         assert_eq!(arrived(&wire, &plan), Ok(()));
+    }
+
+    #[test]
+    fn a_download_ends_with_that_comparison() {
+        let mut plan = plan(vec![0x42; 1_500]);
+        let (mut wire, mut screen) = (wire(&plan), Screen::new(Vec::new(), false));
+        erase(&mut wire, &plan, &mut screen).unwrap();
+        plan.flash[0] ^= 1;
+        let why = "the boot area is not as it was".to_string();
+        assert_eq!(download(&mut wire, &plan, &mut screen), Err(why));
     }
 
     #[test]

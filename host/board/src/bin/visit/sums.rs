@@ -40,11 +40,15 @@ fn changed(old: &Sums, new: &Sums) -> Vec<usize> {
 /// A fresh start must find the kept sums, and so must the sums worked out bit
 /// by bit, which share no code with the loader.
 pub fn check(wire: &Wire) -> Result<(), String> {
-    let kept = &wire.session.sums;
     let first = wire.session.board.first as u16;
     let fresh = Wire::start(wire.flash.clone(), first)?;
-    agree(kept, &fresh.session.sums, "a fresh start finds")?;
-    agree(kept, &bit_by_bit(wire), "bit by bit it is")
+    let (kept, fresh) = (&wire.session.sums, &fresh.session.sums);
+    all_agree(kept, fresh, &bit_by_bit(wire))
+}
+
+fn all_agree(kept: &Sums, fresh: &Sums, worked_out: &Sums) -> Result<(), String> {
+    agree(kept, fresh, "a fresh start finds")?;
+    agree(kept, worked_out, "bit by bit it is")
 }
 
 fn bit_by_bit(wire: &Wire) -> Sums {
@@ -121,11 +125,13 @@ mod tests {
     #[test]
     fn what_is_worked_out_bit_by_bit_is_compared_too() {
         let wire = wire();
-        let mut wrong = bit_by_bit(&wire);
-        assert_eq!(agree(&wire.session.sums, &wrong, "here it is"), Ok(()));
-        wrong.block[2] ^= 1;
-        let why = agree(&wire.session.sums, &wrong, "here it is").unwrap_err();
+        let kept = &wire.session.sums;
+        let mut other = bit_by_bit(&wire);
+        assert_eq!(all_agree(kept, kept, &other), Ok(()));
+        other.block[2] = 0x56;
+        let why = all_agree(kept, kept, &other).unwrap_err();
         assert!(why.contains("that of block 2 is kept as"));
+        assert!(why.ends_with("bit by bit it is 00000056"));
     }
 
     #[test]
