@@ -1,0 +1,197 @@
+//! What the technician sees.
+
+use std::io::{self, ErrorKind, Write};
+
+const WIDTH: usize = 40;
+/// Lines that belong to a step stand under its words.
+pub const INDENT: &str = "             ";
+
+/// Lines and one bar at a time. A write that fails is kept for the end and
+/// stops no visit: a board must not stay erased because a window was closed.
+pub struct Screen<W: Write> {
+    out: W,
+    live: bool,
+    open: bool,
+    lost: Option<io::Error>,
+}
+
+impl<W: Write> Screen<W> {
+    /// On a live screen the bar is drawn again in place.
+    pub fn new(out: W, live: bool) -> Screen<W> {
+        Screen {
+            out,
+            live,
+            open: false,
+            lost: None,
+        }
+    }
+
+    pub fn line(&mut self, text: &str) {
+        self.close_bar();
+        self.put(&format!("{text}\n"));
+    }
+
+    /// The first line of a step.
+    pub fn step(&mut self, number: u8, name: &str, text: &str) {
+        self.line(&format!("{number} {name:<11}{text}"));
+    }
+
+    /// A further line of a step.
+    pub fn under(&mut self, text: &str) {
+        self.line(format!("{INDENT}{text}").trim_end());
+    }
+
+    pub fn progress(&mut self, done: usize, all: usize) {
+        if self.live {
+            self.put(&format!("\r{INDENT}{}", bar(done, all)));
+            self.open = true;
+        } else if done == all {
+            self.under(&bar(done, all));
+        }
+    }
+
+    /// Says whether all was shown. A reader that left early, such as `head`,
+    /// has seen what it wanted.
+    pub fn finish(mut self) -> io::Result<()> {
+        self.close_bar();
+        match self.lost {
+            Some(error) if error.kind() != ErrorKind::BrokenPipe => Err(error),
+            _ => Ok(()),
+        }
+    }
+
+    fn close_bar(&mut self) {
+        if self.open {
+            self.open = false;
+            self.put("\n");
+        }
+    }
+
+    fn put(&mut self, text: &str) {
+        if self.lost.is_none() {
+            let put = self.out.write_all(text.as_bytes());
+            self.lost = put.and_then(|()| self.out.flush()).err();
+        }
+    }
+}
+
+/// A bar that is full only at the end.
+pub fn bar(done: usize, all: usize) -> String {
+    let full = done * WIDTH / all;
+    let (full, rest) = ("#".repeat(full), ".".repeat(WIDTH - full));
+    format!(
+        "[{full}{rest}] {} of {}",
+        grouped(done),
+        counted(all, "byte")
+    )
+}
+
+/// A number with a comma before every three digits.
+pub fn grouped(number: usize) -> String {
+    let digits = number.to_string();
+    let mut text = String::new();
+    for (i, digit) in digits.chars().enumerate() {
+        if i > 0 && (digits.len() - i).is_multiple_of(3) {
+            text.push(',');
+        }
+        text.push(digit);
+    }
+    text
+}
+
+/// A number of things, one or more.
+pub fn counted(number: usize, thing: &str) -> String {
+    let end = if number == 1 { "" } else { "s" };
+    format!("{} {thing}{end}", grouped(number))
+}
+
+#[cfg(test)]
+mod tests {
+    use super::*;
+
+    /// A pipe whose reader took `room` bytes and left, or a full disk.
+    struct Narrow {
+        room: usize,
+        then: ErrorKind,
+    }
+
+    impl Write for Narrow {
+        fn write(&mut self, bytes: &[u8]) -> io::Result<usize> {
+            if self.room == 0 {
+                return Err(io::Error::from(self.then));
+            }
+            let taken = bytes.len().min(self.room);
+            self.room -= taken;
+            Ok(taken)
+        }
+
+        fn flush(&mut self) -> io::Result<()> {
+            Ok(())
+        }
+    }
+
+    fn drawn(live: bool) -> String {
+        let mut out = Vec::new();
+        let mut screen = Screen::new(&mut out, live);
+        screen.progress(512, 1_024);
+        screen.progress(1_024, 1_024);
+        screen.line("next");
+        screen.finish().unwrap();
+        String::from_utf8(out).unwrap()
+    }
+
+    #[test]
+    fn the_bar_fills() {
+        let empty = format!("[{}] 0 of 49,152 bytes", ".".repeat(40));
+        assert_eq!(bar(0, 49_152), empty);
+        let half = format!("[{}{}] 512 of 1,024 bytes", "#".repeat(20), ".".repeat(20));
+        assert_eq!(bar(512, 1_024), half);
+        assert!(bar(49_151, 49_152).contains("#.]"));
+        assert_eq!(bar(7, 7), format!("[{}] 7 of 7 bytes", "#".repeat(40)));
+    }
+
+    #[test]
+    fn a_live_bar_is_drawn_in_place() {
+        let (half, full) = (bar(512, 1_024), bar(1_024, 1_024));
+        assert_eq!(
+            drawn(true),
+            format!("\r{INDENT}{half}\r{INDENT}{full}\nnext\n")
+        );
+    }
+
+    #[test]
+    fn elsewhere_the_full_bar_is_one_line() {
+        let full = bar(1_024, 1_024);
+        assert_eq!(drawn(false), format!("{INDENT}{full}\nnext\n"));
+    }
+
+    #[test]
+    fn a_bar_left_half_way_ends_its_line() {
+        let mut out = Vec::new();
+        let mut screen = Screen::new(&mut out, true);
+        screen.progress(1, 4);
+        screen.finish().unwrap();
+        assert_eq!(out.last(), Some(&b'\n'));
+    }
+
+    #[test]
+    fn a_closed_pipe_is_no_fault_and_a_full_disk_is() {
+        for (then, fine) in [
+            (ErrorKind::BrokenPipe, true),
+            (ErrorKind::StorageFull, false),
+        ] {
+            let mut screen = Screen::new(Narrow { room: 3, then }, false);
+            screen.line("first");
+            screen.line("second");
+            assert_eq!(screen.finish().is_ok(), fine);
+        }
+    }
+
+    #[test]
+    fn numbers_are_grouped_and_counted() {
+        let seen = [0, 999, 1_000, 49_152, 1_234_567].map(grouped);
+        assert_eq!(seen, ["0", "999", "1,000", "49,152", "1,234,567"]);
+        assert_eq!(counted(1, "block"), "1 block");
+        assert_eq!(counted(1_024, "byte"), "1,024 bytes");
+    }
+}

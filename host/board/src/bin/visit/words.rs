@@ -1,0 +1,201 @@
+//! The words of the command line.
+
+use std::ffi::OsString;
+use std::path::{absolute, Path, PathBuf};
+
+pub const HELP: &str = "\
+visit: a technician's visit on a simulated board
+
+It starts the loader on a flash, reads the application back, erases it,
+downloads the corrected image and shows which block sums changed.
+
+  --flash FILE   the flash to start on: 2 to 64 blocks of 1,024 bytes
+                 (without it: a built-in flash of 64 blocks, old tariff)
+  --image FILE   the corrected image, at most as long as the application
+                 (without it: the built-in image, two prices corrected,
+                 cut where the application is shorter)
+  --split A      the block at which the application starts (without it: 16)
+  --save FILE    write the application as it was read back
+  --after FILE   write the flash as the visit left it, done or not
+  --help         this text
+
+Without --save and --after no file is written. Files that stand there
+already are written over. Exit: 0 done, 1 refused or failed, 2 wrong flags.";
+
+/// What the command line asks for.
+#[derive(Debug, PartialEq)]
+pub enum Wish {
+    Help,
+    Visit(Words),
+}
+
+#[derive(Debug, Default, PartialEq)]
+pub struct Words {
+    pub flash: Option<PathBuf>,
+    pub image: Option<PathBuf>,
+    pub split: Option<u16>,
+    pub save: Option<PathBuf>,
+    pub after: Option<PathBuf>,
+}
+
+pub fn parse(words: impl Iterator<Item = OsString>) -> Result<Wish, String> {
+    let all: Vec<OsString> = words.collect();
+    if all.iter().any(|word| word == "--help") {
+        return Ok(Wish::Help);
+    }
+    let mut found = Words::default();
+    let mut rest = all.into_iter();
+    while let Some(flag) = rest.next() {
+        found.take(&flag.to_string_lossy(), rest.next())?;
+    }
+    found.files_of_their_own()?;
+    Ok(Wish::Visit(found))
+}
+
+impl Words {
+    fn take(&mut self, flag: &str, value: Option<OsString>) -> Result<(), String> {
+        match flag {
+            "--flash" => once(&mut self.flash, flag, file(flag, value)?),
+            "--image" => once(&mut self.image, flag, file(flag, value)?),
+            "--split" => once(&mut self.split, flag, block(flag, value)?),
+            "--save" => once(&mut self.save, flag, file(flag, value)?),
+            "--after" => once(&mut self.after, flag, file(flag, value)?),
+            _ => Err(format!("no flag is called {flag}")),
+        }
+    }
+
+    /// What is written must not fall on what is read or written elsewhere: the
+    /// only copy of a flash could be lost that way.
+    fn files_of_their_own(&self) -> Result<(), String> {
+        let pairs = [
+            ("--save", &self.save, "--flash", &self.flash),
+            ("--save", &self.save, "--image", &self.image),
+            ("--save", &self.save, "--after", &self.after),
+            ("--after", &self.after, "--flash", &self.flash),
+            ("--after", &self.after, "--image", &self.image),
+        ];
+        for (flag, path, other, taken) in pairs {
+            if path.is_some() && path.as_deref().map(place) == taken.as_deref().map(place) {
+                return Err(format!("{flag} must not name the file of {other}"));
+            }
+        }
+        Ok(())
+    }
+}
+
+/// Where a path leads, also before the file is there.
+fn place(path: &Path) -> PathBuf {
+    path.canonicalize()
+        .or_else(|_| absolute(path))
+        .unwrap_or_else(|_| path.to_path_buf())
+}
+
+fn once<T>(slot: &mut Option<T>, flag: &str, value: T) -> Result<(), String> {
+    match slot.replace(value) {
+        None => Ok(()),
+        Some(_) => Err(format!("{flag} is given twice")),
+    }
+}
+
+/// A flag is no value: `--save --after` is a name left out.
+fn value_of(value: Option<OsString>) -> Option<OsString> {
+    value.filter(|word| !word.is_empty() && !word.to_string_lossy().starts_with("--"))
+}
+
+fn file(flag: &str, value: Option<OsString>) -> Result<PathBuf, String> {
+    match value_of(value) {
+        Some(word) => Ok(PathBuf::from(word)),
+        None => Err(format!("{flag} needs the name of a file")),
+    }
+}
+
+fn block(flag: &str, value: Option<OsString>) -> Result<u16, String> {
+    let word = value_of(value).ok_or_else(|| format!("{flag} needs a block number"))?;
+    let text = word.to_string_lossy();
+    text.parse()
+        .map_err(|_| format!("{flag} takes a block number from 1 to 63, and '{text}' is none"))
+}
+
+#[cfg(test)]
+mod tests {
+    use super::*;
+
+    fn parsed(words: &[&str]) -> Result<Wish, String> {
+        parse(words.iter().map(OsString::from))
+    }
+
+    fn refused(words: &[&str], message: &str) {
+        assert_eq!(parsed(words), Err(message.to_string()));
+    }
+
+    #[test]
+    fn no_word_is_a_plain_visit() {
+        assert_eq!(parsed(&[]), Ok(Wish::Visit(Words::default())));
+    }
+
+    #[test]
+    fn each_flag_has_its_place() {
+        let words = ["--flash", "f", "--image", "i", "--split", "7"];
+        let more = ["--save", "s", "--after", "a"];
+        let found = Words {
+            flash: Some("f".into()),
+            image: Some("i".into()),
+            split: Some(7),
+            save: Some("s".into()),
+            after: Some("a".into()),
+        };
+        let all = [&words[..], &more[..]].concat();
+        assert_eq!(parsed(&all), Ok(Wish::Visit(found)));
+    }
+
+    #[test]
+    fn help_goes_before_all_else() {
+        assert_eq!(parsed(&["--help"]), Ok(Wish::Help));
+        assert_eq!(parsed(&["--fast", "--split", "--help"]), Ok(Wish::Help));
+    }
+
+    #[test]
+    fn unknown_words_are_named() {
+        refused(&["--fast"], "no flag is called --fast");
+        refused(&["flash.bin"], "no flag is called flash.bin");
+        refused(&["--split=16"], "no flag is called --split=16");
+    }
+
+    #[test]
+    fn a_value_may_not_be_missing() {
+        refused(&["--flash"], "--flash needs the name of a file");
+        refused(&["--image", ""], "--image needs the name of a file");
+        refused(
+            &["--save", "--after", "x"],
+            "--save needs the name of a file",
+        );
+        refused(&["--after"], "--after needs the name of a file");
+        refused(&["--split"], "--split needs a block number");
+    }
+
+    #[test]
+    fn a_split_is_a_number() {
+        for word in ["two", "1.5", "-1", "0x10", "65536", "99999999999999999999"] {
+            let message = "--split takes a block number from 1 to 63, and";
+            refused(&["--split", word], &format!("{message} '{word}' is none"));
+        }
+    }
+
+    #[test]
+    fn a_flag_comes_once() {
+        refused(&["--split", "1", "--split", "1"], "--split is given twice");
+        refused(&["--save", "a", "--save", "b"], "--save is given twice");
+    }
+
+    #[test]
+    fn no_file_is_written_over_another() {
+        let over = |flag, other| format!("{flag} must not name the file of {other}");
+        for flag in ["--save", "--after"] {
+            for other in ["--flash", "--image"] {
+                refused(&[flag, "x", other, "./x"], &over(flag, other));
+            }
+        }
+        refused(&["--after", "x", "--save", "x"], &over("--save", "--after"));
+        assert!(parsed(&["--after", "x", "--save", "y"]).is_ok());
+    }
+}
