@@ -13,6 +13,7 @@ pub mod TwoOutcomes
 pub mod TwoDownloads
 pub mod TwoWorks
 pub mod TwoCommands
+pub mod TwoCovered
 pub mod TwoRows
 pub mod TwoStreams
 pub mod TwoStarts

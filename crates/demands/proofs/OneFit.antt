@@ -36,7 +36,7 @@ use Rattle.loader.specs.Upload.{placeOf, answerOf, uploadEnds, uploadingAt, upl
 use Rattle.loader.specs.Step.{startable, freshStart, startOutcome}
 use Rattle.loader.proofs.Laws.{place-in-stream, start-split, start-sized}
 use Rattle.demands.specs.Calls.{Call, Site, called, next}
-use Rattle.demands.specs.One.{heard, StaysFit, Allowed, StartsFit, RefusedStart, FaultStatus, not-erased, out-of-range, bytes-missing, bad-command}
+use Rattle.demands.specs.One.{heard, StaysFit, AllowedStart, StartsFit, RefusedStart, FaultStatus, not-erased, out-of-range, bytes-missing, bad-command}
 use Rattle.demands.proofs.Ways.{pick, every-way}
 use Rattle.demands.proofs.OneOutside.{piece-place}
 use Rattle.demands.proofs.OneRefused.{refused-holds, unfit-exactly-holds}
@@ -301,7 +301,7 @@ stays-fit-holds at c e =
     })
 
 -- what a start finds
-allowed-startable : (f : List ℕ) (a b : ℕ) → Allowed f a b → startable (length f) a b ≡ true
+allowed-startable : (f : List ℕ) (a b : ℕ) → AllowedStart f a b → startable (length f) a b ≡ true
 unfolding startable
 allowed-startable f a b h =
     rw (
@@ -311,7 +311,7 @@ allowed-startable f a b h =
       eq-eqb (length f) (startOf b) (h .sized),
     )
 
-startable-allowed : (f : List ℕ) (a b : ℕ) → startable (length f) a b ≡ true → Allowed f a b
+startable-allowed : (f : List ℕ) (a b : ℕ) → startable (length f) a b ≡ true → AllowedStart f a b
 startable-allowed f a b e =
     let board = boardOf a b 0 0 in
     let facts = split-facts board (start-split (length f) board e) in
@@ -324,13 +324,13 @@ startable-allowed f a b e =
 
 -- what an allowed start leaves
 pub started :
-    (f : List ℕ) (a b part0 part1 : ℕ) → Allowed f a b
+    (f : List ℕ) (a b part0 part1 : ℕ) → AllowedStart f a b
     → startOutcome f a b part0 part1 ≡ outcome Answer.Taken 0 (freshStart f (boardOf a b part0 part1))
 unfolding startOutcome
 started f a b part0 part1 h = rw (allowed-startable f a b h)
 
 not-started :
-    (f : List ℕ) (a b part0 part1 : ℕ) → (Allowed f a b → ⊥)
+    (f : List ℕ) (a b part0 part1 : ℕ) → (AllowedStart f a b → ⊥)
     → startOutcome f a b part0 part1 ≡ outcome Answer.Unfit 0 zerosOf
 unfolding startOutcome
 not-started f a b part0 part1 n =

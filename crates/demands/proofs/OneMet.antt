@@ -19,7 +19,7 @@ use Rattle.moves.specs.Moves.{stallOf, faultOf, resetOf}
 use Rattle.command.specs.Download.{wellFormed, carriedOut, commandOf, dnloadOf}
 use Rattle.loader.specs.Step.{served}
 use Rattle.demands.specs.Calls.{Call, Site, called, next}
-use Rattle.demands.specs.One.{OutsideApp, heard, InError, allowedCall, Prepared, Allowed}
+use Rattle.demands.specs.One.{OutsideApp, heard, InError, allowedCall, Prepared, AllowedStart}
 use Rattle.demands.proofs.OneOutside.{outside-holds}
 use Rattle.demands.proofs.OneRefused.{refused-holds, unfit-exactly-holds, goes-on}
 use Rattle.demands.proofs.OneFit.{stays-fit-holds}
@@ -35,7 +35,7 @@ unfoldable pub small : Site
 small = record { session = freshOf smallBoard (freshSums smallFlash 1 2); flash = smallFlash }
 
 -- the sizes that a start allows, and others
-pub allowed-met : Allowed smallFlash 1 2
+pub allowed-met : AllowedStart smallFlash 1 2
 unfolding smallFlash
 allowed-met =
     record {
@@ -45,7 +45,7 @@ allowed-met =
       sized = length-blank (startOf 2);
     }
 
-pub not-allowed-met : Allowed smallFlash 2 2 → ⊥
+pub not-allowed-met : AllowedStart smallFlash 2 2 → ⊥
 not-allowed-met h = omega (arith, h .some-application)
 
 -- addresses outside the application, on both sides of it

@@ -24,7 +24,7 @@ use Rattle.loader.specs.Reply.{getstatusOf, getstateOf, queryOf, answered}
 use Rattle.loader.specs.Upload.{uploadOf}
 use Rattle.loader.specs.Step.{ready, served, stepOf}
 use Rattle.demands.specs.Calls.{Call, Site, called}
-use Rattle.demands.specs.One.{heard, InError, Stalled, FaultStatus, Faulted, AsFresh, Rows, Refused}
+use Rattle.demands.specs.One.{heard, InError, Stalled, FaultStatus, Faulted, AsFresh, AnswerRows, Refused}
 use Rattle.demands.specs.One.{allowedCall, SaysDnload, Prepared, UnfitExactly, StalledExactly}
 use Rattle.demands.proofs.Ways.{pick, every-way}
 
@@ -79,7 +79,7 @@ freshened s =
     }
 
 -- a call that is taken is in none of the rows
-taken : (at : Site) (c : Call) (l : Leaves) → heard l ≡ 0 → Rows at c l
+taken : (at : Site) (c : Call) (l : Leaves) → heard l ≡ 0 → AnswerRows at c l
 taken at c l e =
     record {
       stalled = λ h. absurd (omega arith);
@@ -104,7 +104,7 @@ pub refused-holds : Refused
 unfolding called wroteOf infoOf binOf unfitOf stallOf faultOf resetOf getstatusOf getstateOf queryOf answered uploadOf
 refused-holds at c =
     let s = at .session in
-    every-way s (at .flash) (c .setup) (c .bytes) (c .reply) (Rows at c)
+    every-way s (at .flash) (c .setup) (c .bytes) (c .reply) (AnswerRows at c)
     (record {
       unfits = λ _.
           record {

@@ -19,7 +19,7 @@ use Rattle.loader.specs.Reply.{getstatusOf}
 use Rattle.loader.specs.Upload.{uploadOf}
 use Rattle.loader.specs.Step.{ready, served, stepOf, withReply, withFlash}
 use Rattle.demands.specs.Calls.{Call, Site, called, next}
-use Rattle.demands.specs.ReadBack.{Host, asks, heard, wasTaken, ranAfter, run}
+use Rattle.demands.specs.ReadBack.{Host, asks, replied, wasTaken, ranAfter, run}
 use Rattle.demands.specs.ReadBack.{setupFor, dnload, upload, poll, abort}
 
 -- a session and the flash that it speaks of
@@ -31,9 +31,9 @@ pub on-taken :
     {A : Type 0} (at : Site) (c : Call) (go : List ℕ → Host A) (n : ℕ) (s : Session) (f reply : List ℕ)
     → called at c ≡ leaves (outcome Answer.Taken n s) f reply
     → run at (asks c go) ≡ run (siteOf s f) (go (take n reply))
-unfolding run next heard wasTaken ranAfter
+unfolding run next replied wasTaken ranAfter
 on-taken {A} at c go n s f reply e =
-    ap (λ (l : Leaves). ranAfter (wasTaken l) (run (siteOf (l .outcome .session) (l .flash)) (go (heard l)))) e
+    ap (λ (l : Leaves). ranAfter (wasTaken l) (run (siteOf (l .outcome .session) (l .flash)) (go (replied l)))) e
 
 -- the setup of a DNLOAD of so many bytes
 module _ (n : ℕ) (few : n ≤ 1024) where

@@ -29,7 +29,7 @@ use Rattle.loader.specs.Reply.{polled, getstatusOf, getstateOf, queryOf, answer
 use Rattle.loader.specs.Upload.{uploadEnds, uploadingAt, uploadedOf, uploadOf}
 use Rattle.loader.specs.Step.{freshStart}
 use Rattle.demands.specs.Calls.{Call, Site, called, next, after}
-use Rattle.demands.specs.One.{Untouched, Allowed}
+use Rattle.demands.specs.One.{Untouched, AllowedStart}
 use Rattle.demands.specs.Three.{begun, Held, History}
 use Rattle.demands.proofs.Ways.{pick, every-way}
 use Rattle.demands.proofs.OneOutside.{outside-holds, piece-place}
@@ -168,7 +168,7 @@ unfolding after
 held-after f b at [] h = h
 held-after f b at (c ∷ cs) h = held-after f b (next at c) cs (held-next f b at c h)
 
-pub held-begun : (f : List ℕ) (a b part0 part1 : ℕ) → Allowed f a b → Held f (boardOf a b part0 part1) (begun f a b part0 part1)
+pub held-begun : (f : List ℕ) (a b part0 part1 : ℕ) → AllowedStart f a b → Held f (boardOf a b part0 part1) (begun f a b part0 part1)
 unfolding begun freshStart freshOf
 held-begun f a b part0 part1 h =
     let e = started f a b part0 part1 h in

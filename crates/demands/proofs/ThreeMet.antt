@@ -11,7 +11,7 @@ use Rattle.command.specs.Download.{allErased, sumsAfter, wroteOf, progOf, wellF
 use Rattle.loader.specs.Reply.{answered, entered, polled, pollTime, getstatusOf}
 use Rattle.loader.specs.Step.{startable, freshStart, startOutcome, ready, served, stepOf}
 use Rattle.demands.specs.Calls.{Call, Site, called, next, after}
-use Rattle.demands.specs.Three.{begun, Named, none, commandNames, tookDnload, mayChange, noteOf, notedAfter}
+use Rattle.demands.specs.Three.{begun, NamedRange, none, commandNames, tookDnload, mayChange, noteOf, notedAfter}
 use Rattle.demands.proofs.OneMet.{smallFlash, callOf}
 
 -- PROG of two bytes in block 1, the first of them with it; a poll; the second byte
@@ -34,7 +34,7 @@ before = after startSite (prog ∷ poll ∷ [])
 -- what is noted by then, what the piece may change, and a byte that it does change
 pub record Continues : Type 0 where
   pub noted : notedAfter none startSite (prog ∷ poll ∷ []) ≡ record { at = 1024; size = 2 }
-  pub may : (r : Named) → mayChange r (before .session) piece (called before piece) ≡ r
+  pub may : (r : NamedRange) → mayChange r (before .session) piece (called before piece) ≡ r
   pub erased-yet : getD (before .flash) 1025 0 ≡ 255
   pub written : getD (next before piece .flash) 1025 0 ≡ 9
 

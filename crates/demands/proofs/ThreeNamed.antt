@@ -29,8 +29,8 @@ use Rattle.loader.specs.Reply.{entered, polled, getstatusOf, getstateOf, queryO
 use Rattle.loader.specs.Upload.{uploadEnds, uploadingAt, uploadedOf, uploadOf}
 use Rattle.loader.specs.Step.{freshStart}
 use Rattle.demands.specs.Calls.{Call, Site, called, next, after}
-use Rattle.demands.specs.One.{heard, Allowed}
-use Rattle.demands.specs.Three.{begun, Named, none, NotNamed, progNames, eraseNames, commandNames, isDnload, tookDnload}
+use Rattle.demands.specs.One.{heard, AllowedStart}
+use Rattle.demands.specs.Three.{begun, NamedRange, none, NotNamed, progNames, eraseNames, commandNames, isDnload, tookDnload}
 use Rattle.demands.specs.Three.{ChangesNamed, mayChange, noteOf, notedAfter, OnlyNamed}
 use Rattle.demands.proofs.Ways.{pick, every-way}
 use Rattle.demands.proofs.OneOutside.{piece-place}
@@ -48,7 +48,7 @@ no-middle true b d e = rw e
 no-middle false b d e = refl
 
 -- what a call may change and what is noted after it, by what it was
-module _ (noted : Named) (s : Session) (c : Call) (l : Leaves) where
+module _ (noted : NamedRange) (s : Session) (c : Call) (l : Leaves) where
   elsewhere : (state : ℕ) → (s .phase .state .0 ≡ state → ⊥) → tookDnload state s c l ≡ false
   unfolding tookDnload
   elsewhere state n = no-right (eqb (heard l) 0 && isDnload (requestOf (c .setup))) _ (ne-eqb _ _ n)
@@ -88,12 +88,12 @@ module _ (noted : Named) (s : Session) (c : Call) (l : Leaves) where
   undnload n = no-middle (eqb (heard l) 0) _ _ n
 
 -- while a download runs, its place and what remains lie in the noted bytes
-pub record Covers (noted : Named) (s : Session) : Type 0 where
+pub record Covers (noted : NamedRange) (s : Session) : Type 0 where
   pub low : running (s .phase) ≡ true → noted .at ≤ s .down .place .0
   pub high : running (s .phase) ≡ true → s .down .place .0 + s .down .left ≤ noted .at + noted .size
 
 -- a call changes only what it may
-changes-named : (noted : Named) (at : Site) (c : Call) → Covers noted (at .session) → ChangesNamed noted at c
+changes-named : (noted : NamedRange) (at : Site) (c : Call) → Covers noted (at .session) → ChangesNamed noted at c
 unfolding next called wroteOf infoOf binOf stallOf unfitOf faultOf resetOf getstatusOf getstateOf queryOf answered uploadOf erased
 changes-named noted at c covers k =
     let s = at .session in
@@ -108,7 +108,7 @@ changes-named noted at c covers k =
       programs = λ l p i n o.
           let w = ready-range s f (l .fit) (wordAt d 2) (longAt d 4) i in
           let out : NotNamed (progNames d) k =
-          subst (λ (r : Named). NotNamed r k) (changes-prog noted s c _ refl (l .asked) (l .here) p) o
+          subst (λ (r : NamedRange). NotNamed r k) (changes-prog noted s c _ refl (l .asked) (l .here) p) o
           in
           spliced-other f (startOf (wordAt d 2)) (drop 8 d) (omega arith) k
           (⊎-elim (λ lt. inl lt) (λ ge. inr (omega arith)) out);
@@ -118,7 +118,7 @@ changes-named noted at c covers k =
           let low = covers .low runs in
           let high = covers .high runs in
           let out : NotNamed noted k =
-          subst (λ (r : Named). NotNamed r k) (changes-piece noted s c _ refl (l .asked) (l .here)) o
+          subst (λ (r : NamedRange). NotNamed r k) (changes-piece noted s c _ refl (l .asked) (l .here)) o
           in
           spliced-other f (s .down .place .0) d (w .inside) k
           (⊎-elim (λ lt. inl (omega arith)) (λ ge. inr (omega arith)) out);
@@ -129,7 +129,7 @@ changes-named noted at c covers k =
           let w = ready-range s f (l .fit) (wordAt d 2) (startOf (wordAt d 4)) i in
           let long = length-blank (startOf (wordAt d 4)) in
           let out : NotNamed (eraseNames d) k =
-          subst (λ (r : Named). NotNamed r k) (changes-erase noted s c _ refl (l .asked) (l .here) p) o
+          subst (λ (r : NamedRange). NotNamed r k) (changes-erase noted s c _ refl (l .asked) (l .here) p) o
           in
           spliced-other f (startOf (wordAt d 2)) (blank (startOf (wordAt d 4))) (omega arith) k
           (⊎-elim (λ lt. inl lt) (λ ge. inr (omega arith)) out);
@@ -143,11 +143,11 @@ changes-named noted at c covers k =
       idles = λ _ _. refl;
     })
 
-covers-as : (r q : Named) (s : Session) → r ≡ q → Covers q s → Covers r s
-covers-as r q s e h = subst⁻¹ (λ (x : Named). Covers x s) e h
+covers-as : (r q : NamedRange) (s : Session) → r ≡ q → Covers q s → Covers r s
+covers-as r q s e h = subst⁻¹ (λ (x : NamedRange). Covers x s) e h
 
 -- where no download runs, nothing has to be noted
-stopped : (noted : Named) (s : Session) → running (s .phase) ≡ false → Covers noted s
+stopped : (noted : NamedRange) (s : Session) → running (s .phase) ≡ false → Covers noted s
 stopped noted s e =
     record { low = λ r. absurd (false≢true (sym e ∙ r)); high = λ r. absurd (false≢true (sym e ∙ r)) }
 
@@ -185,14 +185,14 @@ upload-stops s asked given =
 
 -- a write goes on behind its bytes
 wrote-covers :
-    (r : Named) (s : Session) (f : List ℕ) (at : ℕ) (bytes : List ℕ) (left : ℕ) → r .at ≤ at
+    (r : NamedRange) (s : Session) (f : List ℕ) (at : ℕ) (bytes : List ℕ) (left : ℕ) → r .at ≤ at
     → at + length bytes + left ≤ r .at + r .size → Covers r (wroteOf s f at bytes left .outcome .session)
 unfolding wroteOf movedTo
 wrote-covers r s f at bytes left low high = record { low = λ _. omega arith; high = λ _. high }
 
 -- what is noted covers the download after a call
 covers-next :
-    (noted : Named) (at : Site) (c : Call) → Covers noted (at .session)
+    (noted : NamedRange) (at : Site) (c : Call) → Covers noted (at .session)
     → Covers (noteOf noted (at .session) c (called at c)) (next at c .session)
 unfolding next called wroteOf infoOf binOf movedTo stallOf unfitOf faultOf resetOf freshOf polled getstatusOf getstateOf queryOf answered uploadOf
 covers-next noted at c covers =
@@ -238,14 +238,14 @@ covers-next noted at c covers =
     })
 
 covers-after :
-    (noted : Named) (at : Site) (calls : List Call) → Covers noted (at .session)
+    (noted : NamedRange) (at : Site) (calls : List Call) → Covers noted (at .session)
     → Covers (notedAfter noted at calls) (after at calls .session)
 unfolding notedAfter after
 covers-after noted at [] h = h
 covers-after noted at (c ∷ cs) h = covers-after _ (next at c) cs (covers-next noted at c h)
 
 -- a start runs no download
-start-stops : (f : List ℕ) (a b part0 part1 : ℕ) → Allowed f a b → running (begun f a b part0 part1 .session .phase) ≡ false
+start-stops : (f : List ℕ) (a b part0 part1 : ℕ) → AllowedStart f a b → running (begun f a b part0 part1 .session .phase) ≡ false
 unfolding begun freshStart freshOf
 start-stops f a b part0 part1 h = ap (λ (o : Outcome). running (o .session .phase)) (started f a b part0 part1 h)
 

@@ -26,7 +26,7 @@ use Rattle.moves.specs.Answers.{Leaves, answerNumber}
 use Rattle.moves.specs.Moves.{stallOf, movedTo}
 use Rattle.command.specs.Download.{sumsAfter, wroteOf}
 use Rattle.demands.specs.Calls.{Call, Site, called}
-use Rattle.demands.specs.One.{Allowed}
+use Rattle.demands.specs.One.{AllowedStart}
 use Rattle.demands.specs.Two.{Asks, StartsAt}
 use Rattle.demands.specs.Two.Form.{upload}
 use Rattle.demands.specs.TwoCommands.{EraseDone, BytesDone}
@@ -242,7 +242,7 @@ module _ (sums : Sums) (k : (flash : List ℕ) (a b part0 part1 : ℕ) → Start
   constant-first : (x : ℕ) → sums .whole ≡ byteStep (crcOf (range (blank 2048) 1024 1023)) x
   unfolding constantStart appEnd
   constant-first x =
-      let may : Allowed (last-flash x) 1 2 =
+      let may : AllowedStart (last-flash x) 1 2 =
       record { some-loader = omega arith; some-application = omega arith; few-blocks = omega arith; sized = last-long x }
       in
       ap (λ (o : Outcome). o .session .sums .whole) (k (last-flash x) 1 2 0 0)

@@ -19,7 +19,7 @@ use Rattle.request.specs.declared.Request.{Request}
 use Rattle.request.proofs.Laws.{form-right, form-facts, dnload-asked}
 use Rattle.loader.specs.Step.{served}
 use Rattle.demands.specs.Calls.{Call, Site, called}
-use Rattle.demands.specs.Two.{stateOf, Sound, Says, Form, Allowed, Asks, Refused}
+use Rattle.demands.specs.Two.{stateOf, Sound, Says, Form, Allowed, Asks, NoRequest}
 use Rattle.demands.specs.Two.Form.{dnload, upload, getstatus, clrstatus, getstate, abort, query}
 use Rattle.demands.proofs.TwoLaws.{sound-served, sound-stalled}
 
@@ -150,7 +150,7 @@ asks-served at c r n k a =
 
 -- what no allowed request in form is leaves
 pub asks-stalled :
-    (at : Site) (c : Call) → Sound at c → Refused at c → called at c ≡ leaves (stallOf (at .session)) (at .flash) (c .reply)
+    (at : Site) (c : Call) → Sound at c → NoRequest at c → called at c ≡ leaves (stallOf (at .session)) (at .flash) (c .reply)
 asks-stalled at c k none = go (requestOf (c .setup)) refl (allowedOf (requestOf (c .setup)) (wLength (c .setup)) (at .session .phase .state .0)) refl
   where
     go :
@@ -170,12 +170,12 @@ asks-brings at c n k =
     ∙ form-length (c .setup) (k .sound .eight) Request.Dnload n (k .form)
 
 -- a sound call asks for an allowed request, or is refused
-pub asks-or-refused : (at : Site) (c : Call) → Sound at c → ((r : Request) × (n : ℕ) × Asks at c r n × Allowed r n (stateOf at)) ⊎ Refused at c
+pub asks-or-refused : (at : Site) (c : Call) → Sound at c → ((r : Request) × (n : ℕ) × Asks at c r n × Allowed r n (stateOf at)) ⊎ NoRequest at c
 asks-or-refused at c k = go (requestOf (c .setup)) refl (allowedOf (requestOf (c .setup)) (wLength (c .setup)) (stateOf at)) refl
   where
     go :
         (r : Request) → requestOf (c .setup) ≡ r → (t : Bool) → allowedOf (requestOf (c .setup)) (wLength (c .setup)) (stateOf at) ≡ t
-        → ((r : Request) × (n : ℕ) × Asks at c r n × Allowed r n (stateOf at)) ⊎ Refused at c
+        → ((r : Request) × (n : ℕ) × Asks at c r n × Allowed r n (stateOf at)) ⊎ NoRequest at c
     go r e true h =
         let told = told-allowed r (wLength (c .setup)) (stateOf at) (rw e at h) in
         inl (r, wLength (c .setup), record { sound = k; form = request-form (c .setup) (k .eight) r e (λ z. rw z at told) }, told)

@@ -14,7 +14,7 @@ use Rattle.session.specs.declared.Session.{Session}
 use Rattle.request.specs.Request.{setupOf, dataAsked}
 use Rattle.request.specs.declared.Request.{Request}
 use Rattle.demands.specs.Calls.{Call, Site}
-use Rattle.demands.specs.Two.{Sound, Asks, Refused, StartsAt, Says, Form}
+use Rattle.demands.specs.Two.{Sound, Asks, NoRequest, StartsAt, Says, Form}
 use Rattle.demands.specs.Two.Form.{dnload, upload, getstatus, clrstatus, getstate, abort, query}
 use Rattle.demands.specs.TwoCommands.{Commanded, Named, Counted, Legal, Blank, NotBlank, NoCommand}
 use Rattle.demands.specs.TwoCommands.NoCommand.{short, unknown, extra}
@@ -265,8 +265,8 @@ no-form Request.Query n (query s e v) = omega (arith, s .typed)
 
 -- so they are refused in states 2 and 10
 pub stalled-met :
-    Sound (small 2 0 0 0) (lent (setups 0 0 0 0 0) []) × Refused (small 2 0 0 0) (lent (setups 0 0 0 0 0) [])
-    × Sound (small 10 0x0F 0 0) (lent (setups 0 0 0 0 0) []) × Refused (small 10 0x0F 0 0) (lent (setups 0 0 0 0 0) [])
+    Sound (small 2 0 0 0) (lent (setups 0 0 0 0 0) []) × NoRequest (small 2 0 0 0) (lent (setups 0 0 0 0 0) [])
+    × Sound (small 10 0x0F 0 0) (lent (setups 0 0 0 0 0) []) × NoRequest (small 10 0x0F 0 0) (lent (setups 0 0 0 0 0) [])
 unfolding fitOf streamLength appEnd dataAsked setupOf
 stalled-met = (
   small-sound (small 2 0 0 0 .session) (blank 2048) (setups 0 0 0 0 0) [] refl (length-blank 2048) refl refl refl,

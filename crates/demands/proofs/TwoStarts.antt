@@ -14,21 +14,21 @@ use Rattle.session.specs.Session.{boardOf, appEnd, wholeUpload, freshOf, zerosO
 use Rattle.session.proofs.Laws.{split-facts}
 use Rattle.loader.specs.Step.{startable, freshStart, startOutcome}
 use Rattle.loader.proofs.Laws.{start-split, start-sized}
-use Rattle.demands.specs.One.{Allowed}
+use Rattle.demands.specs.One.{AllowedStart}
 use Rattle.demands.specs.Two.{Fresh, Zeros, Starts}
 
 module _ (flash : List ℕ) (a b part0 part1 : ℕ) where
-  told : Allowed flash a b → startable (length flash) a b ≡ true
+  told : AllowedStart flash a b → startable (length flash) a b ≡ true
   unfolding startable
   told k = rw (le-leb 1 a (k .some-loader), lt-ltb a b (k .some-application), le-leb b mostBlocks (k .few-blocks), eq-eqb (length flash) (startOf b) (k .sized))
 
-  untold : startable (length flash) a b ≡ true → Allowed flash a b
+  untold : startable (length flash) a b ≡ true → AllowedStart flash a b
   untold e =
       let board = boardOf a b part0 part1 in
       let facts = split-facts board (start-split (length flash) board e) in
       record { some-loader = facts .0; some-application = facts .1; few-blocks = facts .2; sized = start-sized (length flash) board e }
 
-  taken : Allowed flash a b → Fresh flash a b part0 part1 (startOutcome flash a b part0 part1)
+  taken : AllowedStart flash a b → Fresh flash a b part0 part1 (startOutcome flash a b part0 part1)
   unfolding startOutcome freshStart freshOf wholeUpload
   taken k =
       let board = boardOf a b part0 part1 in
@@ -43,7 +43,7 @@ module _ (flash : List ℕ) (a b part0 part1 : ℕ) where
         sums = fresh-right flash a (appEnd board);
       })
 
-  refused : (Allowed flash a b → ⊥) → Zeros (startOutcome flash a b part0 part1)
+  refused : (AllowedStart flash a b → ⊥) → Zeros (startOutcome flash a b part0 part1)
   unfolding startOutcome zerosOf
   refused none = go (startable (length flash) a b) refl
     where
@@ -55,7 +55,7 @@ pub Starts-hold : Starts
 Starts-hold = record { taken = taken; refused = refused }
 
 -- a start that is taken, and one whose flash is a block short
-pub Starts-met : Allowed (blank 2048) 1 2 × (Allowed (blank 1024) 1 2 → ⊥)
+pub Starts-met : AllowedStart (blank 2048) 1 2 × (AllowedStart (blank 1024) 1 2 → ⊥)
 Starts-met = (
   record { some-loader = omega arith; some-application = omega arith; few-blocks = omega arith; sized = length-blank 2048 },
   λ k. omega (arith, k .sized, length-blank 1024),

@@ -118,7 +118,7 @@ pub record ResetAsked (at : Site) (c : Call) (l : Leaves) : Type 0 where
   pub as-fresh : AsFresh (at .session) (l .outcome .session)
 
 -- rows 1 to 4 of the answer table
-pub record Rows (at : Site) (c : Call) (l : Leaves) : Type 0 where
+pub record AnswerRows (at : Site) (c : Call) (l : Leaves) : Type 0 where
   pub stalled : heard l ≡ 1 → Stalled at c l
   pub unfit : heard l ≡ 2 → Unfit at c l
   pub faulted : heard l ≡ 3 → Faulted at c l
@@ -126,7 +126,7 @@ pub record Rows (at : Site) (c : Call) (l : Leaves) : Type 0 where
 
 -- Refused: each refused call leaves what its row says
 abbrev pub Refused : Type 0
-Refused = (at : Site) (c : Call) → Rows at c (called at c)
+Refused = (at : Site) (c : Call) → AnswerRows at c (called at c)
 
 -- type 0x21 and number 1, whatever the rest of the setup holds
 abbrev pub SaysDnload : List ℕ → Type 0
@@ -157,7 +157,7 @@ abbrev pub StaysFit : Type 0
 StaysFit = (at : Site) (c : Call) → fitOf (at .session) ≡ true → fitOf (next at c .session) ≡ true
 
 -- sizes that a start allows: 1 ≤ A < B, B at most the most blocks, and a flash of B × 1,024 bytes
-pub record Allowed (f : List ℕ) (a b : ℕ) : Type 0 where
+pub record AllowedStart (f : List ℕ) (a b : ℕ) : Type 0 where
   pub some-loader : 1 ≤ a
   pub some-application : a < b
   pub few-blocks : b ≤ mostBlocks
@@ -171,7 +171,7 @@ pub record GoodStart (o : Outcome) : Type 0 where
 
 -- StartsFit: so is every start on allowed sizes
 abbrev pub StartsFit : Type 0
-StartsFit = (f : List ℕ) (a b part0 part1 : ℕ) → Allowed f a b → GoodStart (startOutcome f a b part0 part1)
+StartsFit = (f : List ℕ) (a b part0 part1 : ℕ) → AllowedStart f a b → GoodStart (startOutcome f a b part0 part1)
 
 -- a start that is answered unfit, with the session of zeros, which every later call finds unfit, whatever flash it is lent
 pub record BadStart (o : Outcome) : Type 0 where
@@ -185,4 +185,4 @@ pub record BadStart (o : Outcome) : Type 0 where
 
 -- RefusedStart: so is every other start
 abbrev pub RefusedStart : Type 0
-RefusedStart = (f : List ℕ) (a b part0 part1 : ℕ) → (Allowed f a b → ⊥) → BadStart (startOutcome f a b part0 part1)
+RefusedStart = (f : List ℕ) (a b part0 part1 : ℕ) → (AllowedStart f a b → ⊥) → BadStart (startOutcome f a b part0 part1)

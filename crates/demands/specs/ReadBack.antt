@@ -21,8 +21,8 @@ pub data Host (A : Type 0) : Type 0 where
   asks : Call → (List ℕ → Host A) → Host A
 
 -- the reply bytes of a call: as many as its count says
-unfoldable pub heard : Leaves → List ℕ
-heard l = take (l .outcome .count) (l .reply)
+unfoldable pub replied : Leaves → List ℕ
+replied l = take (l .outcome .count) (l .reply)
 
 -- whether the answer was 0, taken
 unfoldable pub wasTaken : Leaves → Bool
@@ -41,7 +41,7 @@ ranAfter first r = record { site = r .site; got = r .got; taken = first && r .ta
 -- a host's calls one after another, each with the session and the flash that the one before it left
 unfoldable pub run : {A : Type 0} → Site → Host A → Ran A
 run at (ends a) = record { site = at; got = a; taken = true }
-run at (asks c go) = ranAfter (wasTaken (called at c)) (run (next at c) (go (heard (called at c))))
+run at (asks c go) = ranAfter (wasTaken (called at c)) (run (next at c) (go (replied (called at c))))
 
 -- setup bytes: type, number, wValue 0, wIndex 0, wLength
 unfoldable pub setupFor : ℕ → ℕ → ℕ → List ℕ
@@ -106,7 +106,7 @@ unfoldable pub sends : List ℕ → List (List ℕ) → Host Unit
 sends lent [] = ends tt
 sends lent (bytes ∷ rest) = asks (dnload lent bytes) (λ _. asks (poll lent) (λ _. sends lent rest))
 
--- the parts in turn, each at the site that the one before it left; what is sent is what was heard
+-- the parts in turn, each at the site that the one before it left; what is sent is what was replied
 unfoldable pub hasRead : Site → List ℕ → ℕ → ℕ → Ran (List (List ℕ))
 hasRead at lent block len = run at (reads lent block len)
 

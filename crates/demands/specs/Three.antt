@@ -18,7 +18,7 @@ use Rattle.moves.specs.Answers.{Leaves}
 use Rattle.command.specs.Download.{longAt}
 use Rattle.loader.specs.Step.{startOutcome}
 use Rattle.demands.specs.Calls.{Call, Site, called, next, after}
-use Rattle.demands.specs.One.{Untouched, heard, Allowed}
+use Rattle.demands.specs.One.{Untouched, heard, AllowedStart}
 
 -- the site that a start leaves: its session, and the flash that it read
 unfoldable pub begun : List ℕ → ℕ → ℕ → ℕ → ℕ → Site
@@ -36,32 +36,32 @@ pub record Held (f : List ℕ) (board : Board) (at : Site) : Type 0 where
 -- list is any, so this holds after each of its calls too
 abbrev pub History : Type 0
 History =
-    (f : List ℕ) (a b part0 part1 : ℕ) → Allowed f a b → (calls : List Call)
+    (f : List ℕ) (a b part0 part1 : ℕ) → AllowedStart f a b → (calls : List Call)
     → Held f (boardOf a b part0 part1) (after (begun f a b part0 part1) calls)
 
 -- some bytes of flash that were named: where they begin, and how many they are
-pub record Named : Type 0 where
+pub record NamedRange : Type 0 where
   pub at : ℕ
   pub size : ℕ
 
 -- no bytes
-abbrev pub none : Named
+abbrev pub none : NamedRange
 none = record { at = 0; size = 0 }
 
 -- an address that is not among them
-abbrev pub NotNamed : Named → ℕ → Type 0
+abbrev pub NotNamed : NamedRange → ℕ → Type 0
 NotNamed r k = (k < r .at) ⊎ (r .at + r .size ≤ k)
 
 -- the bytes that the commands name: PROG, number 1, the length's bytes from the block on
-abbrev pub progNames : List ℕ → Named
+abbrev pub progNames : List ℕ → NamedRange
 progNames d = record { at = startOf (wordAt d 2); size = longAt d 4 }
 
 -- ERASE, number 4, the count's blocks
-abbrev pub eraseNames : List ℕ → Named
+abbrev pub eraseNames : List ℕ → NamedRange
 eraseNames d = record { at = startOf (wordAt d 2); size = startOf (wordAt d 4) }
 
 -- no other command names bytes to be changed
-unfoldable pub commandNames : List ℕ → Named
+unfoldable pub commandNames : List ℕ → NamedRange
 commandNames d = cond (eqb (getD d 0 0) 1) (progNames d) (cond (eqb (getD d 0 0) 4) (eraseNames d) none)
 
 -- DNLOAD, and no other request
@@ -81,21 +81,21 @@ tookDnload state s c l = eqb (heard l) 0 && isDnload (requestOf (c .setup)) && e
 
 -- the bytes that a call may change: in state 2 those that its command names, in state 5 those noted of the PROG that it continues;
 -- any other call none
-unfoldable pub mayChange : Named → Session → Call → Leaves → Named
+unfoldable pub mayChange : NamedRange → Session → Call → Leaves → NamedRange
 mayChange noted s c l =
     cond (tookDnload 2 s c l) (commandNames (c .bytes)) (cond (tookDnload 5 s c l) noted none)
 
 -- what is noted after a call: the bytes that a PROG names that it carried out, else what was noted before
-unfoldable pub noteOf : Named → Session → Call → Leaves → Named
+unfoldable pub noteOf : NamedRange → Session → Call → Leaves → NamedRange
 noteOf noted s c l = cond (tookDnload 2 s c l && eqb (getD (c .bytes) 0 0) 1) (progNames (c .bytes)) noted
 
 -- what is noted after a list of calls
-unfoldable pub notedAfter : Named → Site → List Call → Named
+unfoldable pub notedAfter : NamedRange → Site → List Call → NamedRange
 notedAfter noted at [] = noted
 notedAfter noted at (c ∷ cs) = notedAfter (noteOf noted (at .session) c (called at c)) (next at c) cs
 
 -- a call changes no other bytes than it may
-abbrev pub ChangesNamed : Named → Site → Call → Type 0
+abbrev pub ChangesNamed : NamedRange → Site → Call → Type 0
 ChangesNamed noted at c =
     (k : ℕ) → NotNamed (mayChange noted (at .session) c (called at c)) k → getD (next at c .flash) k 0 ≡ getD (at .flash) k 0
 
@@ -103,5 +103,5 @@ ChangesNamed noted at c =
 -- the PROG that it continues
 abbrev pub OnlyNamed : Type 0
 OnlyNamed =
-    (f : List ℕ) (a b part0 part1 : ℕ) → Allowed f a b → (calls : List Call) (c : Call)
+    (f : List ℕ) (a b part0 part1 : ℕ) → AllowedStart f a b → (calls : List Call) (c : Call)
     → ChangesNamed (notedAfter none (begun f a b part0 part1) calls) (after (begun f a b part0 part1) calls) c

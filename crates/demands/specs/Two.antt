@@ -17,7 +17,7 @@ use Rattle.moves.specs.declared.Outcome.{Outcome}
 use Rattle.moves.specs.Answers.{answerNumber}
 use Rattle.loader.specs.Step.{startOutcome}
 use Rattle.demands.specs.Calls.{Call, Site, called}
-use Rattle.demands.specs.One.{Allowed as AllowedStart}
+use Rattle.demands.specs.One.{AllowedStart}
 
 -- the state that a site is in, and the session that a call hands back
 abbrev pub stateOf : Site → ℕ
@@ -69,8 +69,8 @@ pub record Asks (at : Site) (c : Call) (r : Request) (n : ℕ) : Type 0 where
   pub form : Form (c .setup) n r
 
 -- a call that is no request in form which the state allows
-abbrev pub Refused : Site → Call → Type 0
-Refused at c = (r : Request) (n : ℕ) → Form (c .setup) n r → Allowed r n (stateOf at) → ⊥
+abbrev pub NoRequest : Site → Call → Type 0
+NoRequest at c = (r : Request) (n : ℕ) → Form (c .setup) n r → Allowed r n (stateOf at) → ⊥
 
 -- what the host hears: the answer's number, and so many bytes at the front of the reply, the rest of it untouched
 pub record Answers (at : Site) (c : Call) (number : ℕ) (bytes : List ℕ) : Type 0 where
@@ -160,10 +160,10 @@ pub record RowsAt (at : Site) (c : Call) : Type 0 where
   -- the query answers four bytes and changes nothing
   pub query : Asks at c Request.Query 4 → Unchanged at c 0 (0x4D ∷ 0x4C ∷ 0x01 ∷ 0x20 ∷ [])
   -- everything else is stalled: to state 10 with status 0x0F; in state 10 nothing changes
-  pub stalled : Sound at c → Refused at c → (stateOf at ≡ 10 → ⊥) → Moves at c 1 [] 10 0x0F
-  pub stalled-in-error : Sound at c → Refused at c → stateOf at ≡ 10 → Unchanged at c 1 []
+  pub stalled : Sound at c → NoRequest at c → (stateOf at ≡ 10 → ⊥) → Moves at c 1 [] 10 0x0F
+  pub stalled-in-error : Sound at c → NoRequest at c → stateOf at ≡ 10 → Unchanged at c 1 []
   -- and there is nothing else: a call that isn't unfit is a request in form and allowed, or is refused
-  pub either : Sound at c → ((r : Request) × (n : ℕ) × Asks at c r n × Allowed r n (stateOf at)) ⊎ Refused at c
+  pub either : Sound at c → ((r : Request) × (n : ℕ) × Asks at c r n × Allowed r n (stateOf at)) ⊎ NoRequest at c
 
 abbrev pub Rows : Type 0
 Rows = (at : Site) (c : Call) → RowsAt at c
