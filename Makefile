@@ -6,11 +6,11 @@ SOURCES := crates.txt $(shell find crates -name '*.rt' -o -name '*.antt')
 
 CHECKED = -std=c11 -g -O1 -Wall -Wextra -DCHECKED -fsanitize=address,undefined -fno-sanitize-recover=all -Iinclude
 
-.PHONY: test demo soak expected host layout library example differ faults replay checked
+.PHONY: test demo soak expected host layout library example differ faults replay checked quoted
 
 # The gate: the second loader's own tests, the stored outputs against it, the calls for C and Rust, then every proof, every edit that
 # must fail and every program, from nothing. The last line is the prover's own count.
-test: host expected layout example differ faults replay checked
+test: host expected layout example differ faults replay checked quoted
 	rt ci
 
 host: build/libboard.a
@@ -42,19 +42,22 @@ example: build/libboard.a
 
 # The proved loader beside the second one, call by call, over every split; stops by itself. `soak` goes on until it is stopped.
 differ: build/libboard.a
-	$(BOARD) differ
+	$(BOARD) differ > build/differ.said || { cat build/differ.said; false; }
+	@cat build/differ.said
 
 soak: build/libboard.a
 	$(BOARD) differ -- --soak --seed $$(date +%s)
 
 # The comparison finds what it is there to find.
 faults: build/libboard.a
-	tools/faults
+	tools/faults > build/faults.said
+	@cat build/faults.said
 
 # The same kind of histories from C, on the library as it ships, each buffer beside pages that trap.
 replay: build/libboard.a
 	tools/shipped build/replay tests/replay.c
-	$(HOST) tape -- 20261116 1200 | tools/run build/replay
+	$(HOST) tape -- 20261116 1200 | tools/run build/replay > build/replay.said || { cat build/replay.said; false; }
+	@cat build/replay.said
 
 # And under AddressSanitizer and UndefinedBehaviorSanitizer, which must speak up where a board breaks its word.
 checked: build/libboard.a
@@ -62,13 +65,19 @@ checked: build/libboard.a
 	build/checked/example > build/checked/example.out
 	cmp build/checked/example.out examples/board.out
 	$(CC) $(CHECKED) tests/replay.c build/checked/libboard.a -o build/checked/replay
-	$(HOST) tape -- 20261117 300 | build/checked/replay
+	$(HOST) tape -- 20261117 300 | build/checked/replay > build/checked.said || { cat build/checked.said; false; }
+	@cat build/checked.said
 	$(CC) $(CHECKED) tests/liar.c build/checked/libboard.a -o build/checked/liar
 	! build/checked/liar 2> build/checked/liar.said
 	grep -q 'AddressSanitizer: heap-buffer-overflow' build/checked/liar.said
 
-# Proves the loader, plays a session through it and shows what each request was answered.
-demo:
-	rt check play
-	@echo 'answer count state status whole-sum block-sums reply flash'
-	@cat target/log/play.stdout
+# A technician's visit on a simulated board, through the proved calls. ARGS holds its flags: make demo ARGS=--help
+demo: build/libboard.a
+	@$(BOARD) visit -- $(ARGS)
+
+# The README quotes the visit, and what the comparisons say, as they are.
+quoted: differ faults replay checked
+	$(BOARD) visit > build/visit.said
+	sed -n '/^`make demo` prints/,/^`make test` prints/s/^    //p' README.md | cmp - build/visit.said
+	cat build/differ.said build/faults.said build/replay.said build/checked.said > build/test.said
+	sed -n '/^`make test` prints/,/^## /s/^    //p' README.md | cmp - build/test.said
