@@ -1,6 +1,7 @@
-//! The proved loader for Rust: the two calls that its library exports, made
-//! safe. What the C header asks of a board (buffers that don't overlap, nobody
-//! else writing meanwhile) the borrows here grant by themselves.
+//! The proved loader for Rust: the two calls that its library exports, and its
+//! sum by itself, made safe. What the C header asks of a board (buffers that
+//! don't overlap, nobody else writing meanwhile) the borrows here grant by
+//! themselves.
 
 mod raw;
 
@@ -40,6 +41,12 @@ pub fn request(
             reply.len(),
         )
     }
+}
+
+/// The sum of the bytes, by the same proved function as the loader's sums.
+pub fn sum(bytes: &[u8]) -> u32 {
+    // SAFETY: the slice lends its bytes for the call, which only reads them.
+    unsafe { raw::mullirim_sum(bytes.as_ptr(), bytes.len()) }
 }
 
 /// The second loader's session, field for field.
@@ -141,6 +148,15 @@ mod tests {
         let answer = request(&mut started.session, &mut flash, &setup, &[], &mut reply);
         assert_eq!((started.code, answer.code, answer.count), (0, 0, 4));
         assert_eq!(reply[..5], [0x4D, 0x4C, 0x01, 0x20, 0xEE]);
+    }
+
+    #[test]
+    fn a_sum_is_the_papers() {
+        assert_eq!(sum(b"123456789"), 0x340B_C6D9);
+        let bytes: Vec<u8> = (0..49_152u32).map(|i| (i * 7 + i / 256) as u8).collect();
+        for length in [0, 1, 2, 255, 256, 1_016, 1_023, 1_024, 1_025, 49_152] {
+            assert_eq!(sum(&bytes[..length]), second::sum(&bytes[..length]));
+        }
     }
 
     #[test]

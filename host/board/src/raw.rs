@@ -1,4 +1,5 @@
-//! The library's calls and structs as `include/mullirim.h` declares them.
+//! The library's calls and structs as `include/mullirim.h` declares them, and
+//! the sum by itself, which is exported for measuring alone.
 
 pub const MOST_BLOCKS: usize = 64;
 
@@ -97,4 +98,6 @@ extern "C" {
         reply: *mut u8,
         reply_len: usize,
     ) -> Answer;
+
+    pub fn mullirim_sum(bytes: *const u8, bytes_len: usize) -> u32;
 }

@@ -1,0 +1,93 @@
+//! Times the proved loader beside plain Rust and, for the sums, beside zlib.
+//! Before anything is timed, both sides must have come to the same result.
+
+#[path = "bench/clock.rs"]
+mod clock;
+#[path = "bench/download.rs"]
+mod download;
+#[path = "bench/plain.rs"]
+mod plain;
+#[path = "bench/question.rs"]
+mod question;
+#[path = "bench/refresh.rs"]
+mod refresh;
+#[path = "bench/search.rs"]
+mod search;
+#[path = "bench/sums.rs"]
+mod sums;
+#[path = "bench/zlib.rs"]
+mod zlib;
+
+use clock::{Row, REPETITIONS};
+use mullirim_board::{request, start, Answer, Session};
+use mullirim_host::tape::setup;
+use std::ops::Range;
+use std::process::ExitCode;
+
+/// The board of the paper's desk examples.
+const FIRST: u16 = 16;
+const BLOCKS: u16 = 64;
+const BLOCK: usize = 1_024;
+const FLASH: usize = BLOCKS as usize * BLOCK;
+const APPLICATION: Range<usize> = FIRST as usize * BLOCK..FLASH;
+
+/// A comparison: what was measured, or how the two sides differed.
+type Compared = Result<Vec<Row>, String>;
+
+fn main() -> ExitCode {
+    println!(
+        "{:<28} {:>9}  {:<30} {:>9} {:>7}  rounds",
+        "what", "ours", "beside", "theirs", "ratio"
+    );
+    let comparisons = [
+        sums::compare,
+        download::compare,
+        search::compare,
+        refresh::compare,
+        question::compare,
+    ];
+    for compare in comparisons {
+        match compare() {
+            Ok(rows) => rows.iter().for_each(|row| println!("{row}")),
+            Err(why) => {
+                eprintln!("bench: {why}");
+                return ExitCode::FAILURE;
+            }
+        }
+    }
+    println!(
+        "Microseconds, medians of {REPETITIONS}. Ratio: ours by theirs; below 1 ours is quicker."
+    );
+    println!("Rounds: the least and the greatest ratio within one round of all sides.");
+    ExitCode::SUCCESS
+}
+
+/// Goes on where both sides agree.
+fn agree(what: &str, same: bool) -> Result<(), String> {
+    match same {
+        true => Ok(()),
+        false => Err(format!("{what}: the two sides differ")),
+    }
+}
+
+/// Bytes without a short period, so that no side can guess them.
+fn noise(length: usize) -> Vec<u8> {
+    let mut number = 1u32;
+    let mut byte = || {
+        number = number.wrapping_mul(1_664_525).wrapping_add(1_013_904_223);
+        (number >> 24) as u8
+    };
+    (0..length).map(|_| byte()).collect()
+}
+
+/// The session of a start over this flash.
+fn started(flash: &[u8]) -> Session {
+    start(flash, FIRST, BLOCKS, 0, 0).session
+}
+
+/// One DNLOAD through the proved loader.
+fn dnload(session: &mut Session, flash: &mut [u8], data: &[u8]) -> Answer {
+    let mut reply = [0; 1_024];
+    let setup = setup(0x21, 1, data.len() as u16);
+    request(session, flash, &setup, data, &mut reply)
+}

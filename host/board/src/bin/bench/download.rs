@@ -1,0 +1,159 @@
+//! A whole download onto an erased application. The second loader sums bit by
+//! bit and is no rival in speed; it stands here because it does all the same.
+
+use super::clock::{race, Side};
+use super::plain::{self, Sums};
+use super::{agree, noise, started, Compared, APPLICATION, FIRST, FLASH};
+use mullirim_board::{request, Session};
+use mullirim_host::second::{self, command, state, ERASED, TRANSFER};
+use mullirim_host::tape::{header, setup};
+
+const PIECES: [usize; 2] = [1_016, 1_024];
+
+/// A request as the host sends it.
+struct Sent {
+    setup: [u8; 8],
+    data: Vec<u8>,
+}
+
+pub fn compare() -> Compared {
+    let image = noise(APPLICATION.len());
+    let mut rows = Vec::new();
+    for piece in PIECES {
+        let pieces = cut(&image, piece);
+        let sent = requests(&pieces);
+        let what = format!("download, pieces of {piece}");
+        agree(&what, same(&image, &pieces, &sent))?;
+        rows.extend(race(&what, sides(&pieces, &sent)));
+    }
+    Ok(rows)
+}
+
+/// The image in pieces. The first shares its request with the command.
+fn cut(image: &[u8], piece: usize) -> Vec<&[u8]> {
+    let (first, rest) = image.split_at(piece.min(TRANSFER - command::LENGTH));
+    let mut pieces = vec![first];
+    pieces.extend(rest.chunks(piece));
+    pieces
+}
+
+/// PROG with the first piece, the other pieces, the close; GETSTATUS after each.
+fn requests(pieces: &[&[u8]]) -> Vec<Sent> {
+    let prog = header(command::PROG, FIRST, APPLICATION.len() as u32);
+    let mut downloads = vec![[&prog, pieces[0]].concat()];
+    downloads.extend(pieces[1..].iter().map(|piece| piece.to_vec()));
+    downloads.push(Vec::new());
+    let mut sent = Vec::new();
+    for data in downloads {
+        sent.push(Sent {
+            setup: setup(0x21, 1, data.len() as u16),
+            data,
+        });
+        sent.push(Sent {
+            setup: setup(0xA1, 3, 6),
+            data: Vec::new(),
+        });
+    }
+    sent
+}
+
+fn erased() -> Vec<u8> {
+    vec![ERASED; FLASH]
+}
+
+fn sides<'a>(pieces: &'a [&'a [u8]], sent: &'a [Sent]) -> Vec<Side<'a>> {
+    let session = started(&erased());
+    let second = second::Session::from(&session);
+    let sums = Sums::new(&erased());
+    vec![
+        Side::readied("ours", erased, move |mut flash| {
+            let (taken, session) = play(session, &mut flash, sent);
+            (taken, session, flash)
+        }),
+        Side::readied("Rust, byte table: same work", erased, move |mut flash| {
+            let mut sums = sums.clone();
+            let done = plain::download(&mut flash, &mut sums, pieces);
+            (done, sums, flash)
+        }),
+        Side::readied("second loader, bit by bit", erased, move |mut flash| {
+            let (taken, session) = play_second(second.clone(), &mut flash, sent);
+            (taken, session, flash)
+        }),
+    ]
+}
+
+/// Whether all three are done, have the image in flash, and keep the same sums.
+fn same(image: &[u8], pieces: &[&[u8]], sent: &[Sent]) -> bool {
+    let session = started(&erased());
+    let second = second::Session::from(&session);
+    let mut flashes = [erased(), erased(), erased()];
+    let mut sums = Sums::new(&flashes[2]);
+    let (taken, ours) = play(session, &mut flashes[0], sent);
+    let (second_taken, second) = play_second(second, &mut flashes[1], sent);
+    let done = plain::download(&mut flashes[2], &mut sums, pieces);
+    let kept = &ours.sums;
+    taken
+        && second_taken
+        && done
+        && flashes.iter().all(|flash| flash[APPLICATION] == *image)
+        && second::Session::from(&ours) == second
+        && ours.phase.state == state::IDLE
+        && kept.block[FIRST as usize..] == sums.block
+        && kept.whole == sums.whole
+}
+
+/// Plays the requests through the proved loader: whether all were taken, and
+/// the session at the end.
+fn play(mut session: Session, flash: &mut [u8], sent: &[Sent]) -> (bool, Session) {
+    let mut reply = [0; TRANSFER];
+    let mut taken = true;
+    for Sent { setup, data } in sent {
+        taken &= request(&mut session, flash, setup, data, &mut reply).code == 0;
+    }
+    (taken, session)
+}
+
+/// The same through the second loader.
+fn play_second(
+    mut session: second::Session,
+    flash: &mut [u8],
+    sent: &[Sent],
+) -> (bool, second::Session) {
+    let mut reply = [0; TRANSFER];
+    let mut taken = true;
+    for Sent { setup, data } in sent {
+        let outcome = second::step(&session, flash, setup, data, &mut reply);
+        taken &= outcome.answer == second::answer::TAKEN;
+        session = outcome.session;
+    }
+    (taken, session)
+}
+
+#[cfg(test)]
+mod tests {
+    use super::*;
+
+    #[test]
+    fn pieces_are_the_image() {
+        let image = noise(APPLICATION.len());
+        for piece in PIECES {
+            let pieces = cut(&image, piece);
+            assert_eq!(pieces.concat(), image);
+            let sent = requests(&pieces);
+            assert_eq!(sent.len(), 2 * pieces.len() + 2);
+            assert_eq!(sent[0].data.len(), TRANSFER);
+            assert!(sent[sent.len() - 2].data.is_empty());
+        }
+    }
+
+    #[test]
+    fn all_three_do_the_same() {
+        let image = noise(APPLICATION.len());
+        let pieces = cut(&image, 1_024);
+        let sent = requests(&pieces);
+        assert!(same(&image, &pieces, &sent));
+        assert!(!same(&noise(1), &pieces, &sent));
+        assert!(!same(&image, &pieces[1..], &sent));
+        assert!(!same(&image, &pieces, &sent[1..]));
+    }
+}
