@@ -6,7 +6,7 @@ SOURCES := crates.txt $(shell find crates -name '*.rt' -o -name '*.antt')
 
 CHECKED = -std=c11 -g -O1 -Wall -Wextra -DCHECKED -fsanitize=address,undefined -fno-sanitize-recover=all -Iinclude
 
-.PHONY: test demo soak expected host layout library example differ faults replay checked quoted
+.PHONY: test demo soak bench expected host layout library example differ faults replay checked quoted
 
 # The gate: the second loader's own tests, the stored outputs against it, the calls for C and Rust, then every proof, every edit that
 # must fail and every program, from nothing. The last line is the prover's own count.
@@ -28,7 +28,8 @@ expected:
 layout:
 	$(CC) -std=c11 -Wall -Wextra -Werror -Iinclude -fsyntax-only tests/layout.c examples/board.c
 
-# The calls for C, proved and compiled: for x86-64 as they ship, and for the machine at hand.
+# The calls for C, proved and compiled: for x86-64 as they ship, and for the machine at hand. The tool makes the other archives of build/
+# beside the one that stands for them all here.
 library: build/libboard.a
 
 build/libboard.a: $(SOURCES) tools/library
@@ -47,6 +48,10 @@ differ: build/libboard.a
 
 soak: build/libboard.a
 	$(BOARD) differ -- --soak --seed $$(date +%s)
+
+# The proved calls beside plain Rust and zlib. Figures are for docs/PERFORMANCE.md; nothing tests them.
+bench: build/libboard.a
+	@$(BOARD) bench
 
 # The comparison finds what it is there to find.
 faults: build/libboard.a
@@ -75,9 +80,10 @@ checked: build/libboard.a
 demo: build/libboard.a
 	@$(BOARD) visit -- $(ARGS)
 
-# The README quotes the visit, and what the comparisons say, as they are.
+# The README quotes the visit, and what the comparisons say, as they are (but for empty lines).
 quoted: differ faults replay checked
 	$(BOARD) visit > build/visit.said
-	sed -n '/^`make demo` prints/,/^`make test` prints/s/^    //p' README.md | cmp - build/visit.said
+	grep . build/visit.said > build/demo.said
+	sed -n '/^`make demo` prints/,/^`make test` prints/s/^    //p' README.md | cmp - build/demo.said
 	cat build/differ.said build/faults.said build/replay.said build/checked.said > build/test.said
 	sed -n '/^`make test` prints/,/^## /s/^    //p' README.md | cmp - build/test.said
