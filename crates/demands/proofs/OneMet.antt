@@ -14,12 +14,12 @@ use Rattle.session.specs.Session.{appEnd, boardOf, freshOf}
 use Rattle.session.specs.Rules.{fitOf}
 use Rattle.session.specs.declared.Board.{Board}
 use Rattle.session.proofs.Laws.{fresh-fit}
-use Rattle.request.specs.Request.{allowedOf, formOf, setupOf}
+use Rattle.request.specs.Request.{wordAt, allowedOf, formOf, setupOf}
 use Rattle.moves.specs.Moves.{stallOf, faultOf, resetOf}
 use Rattle.command.specs.Download.{wellFormed, carriedOut, commandOf, dnloadOf}
 use Rattle.loader.specs.Step.{served}
 use Rattle.demands.specs.Calls.{Call, Site, called, next}
-use Rattle.demands.specs.One.{OutsideApp, heard, InError, allowedCall, Prepared, AllowedStart}
+use Rattle.demands.specs.One.{OutsideApp, heard, InError, allowedCall, SaysDnload, Prepared, AllowedStart}
 use Rattle.demands.proofs.OneOutside.{outside-holds}
 use Rattle.demands.proofs.OneRefused.{refused-holds, unfit-exactly-holds, goes-on}
 use Rattle.demands.proofs.OneFit.{stays-fit-holds}
@@ -93,27 +93,24 @@ prepared-met =
       rules = stays-fit-met;
     }
 
-one-byte-prepared : Prepared small oneByte
-one-byte-prepared =
+dnload-prepared :
+    (setup bytes : List ℕ) → length setup ≡ 8 → SaysDnload setup → length bytes ≡ wordAt setup 6
+    → Prepared small (callOf setup bytes)
+dnload-prepared setup bytes eight says brought =
     record {
-      setup-bytes = refl;
+      setup-bytes = eight;
       room = roomy;
       flash-length = small-sized;
-      dnload-data = λ _. refl;
-      other-data = λ n. absurd (n (refl, refl));
+      dnload-data = λ _. brought;
+      other-data = λ n. absurd (n says);
       rules = stays-fit-met;
     }
 
+one-byte-prepared : Prepared small oneByte
+one-byte-prepared = dnload-prepared _ _ refl (refl, refl) refl
+
 reset-prepared : Prepared small resetCommand
-reset-prepared =
-    record {
-      setup-bytes = refl;
-      room = roomy;
-      flash-length = small-sized;
-      dnload-data = λ _. refl;
-      other-data = λ n. absurd (n (refl, refl));
-      rules = stays-fit-met;
-    }
+reset-prepared = dnload-prepared _ _ refl (refl, refl) refl
 
 pub not-prepared-met : Prepared small noSetup → ⊥
 not-prepared-met p = omega (arith, p .setup-bytes)
@@ -168,5 +165,5 @@ abort-prepared =
 pub in-ten-met : (next small clrstatus .session .phase .state .0 ≡ 10) × (heard (called (next small clrstatus) abort) ≡ 1)
 unfolding formOf setupOf allowedOf stallOf
 in-ten-met =
-    let e = stalled-once .state in
+    let e = stalled-once .in-state in
     (e, ap heard (goes-on (next small clrstatus) abort abort-prepared) ∙ rw e)

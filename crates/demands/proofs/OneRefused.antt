@@ -1,5 +1,5 @@
 -- The answers that refuse leave what their definitions write down, and a call is unfit by the first test alone. Assumes nothing.
-use Prim.Native.Nat.{ℕ}
+use Prim.Native.Nat.{ℕ, _-_}
 use mathlib.Core.Bool.{true, false, cond, _&&_, false≢true}
 use mathlib.Core.List.{List}
 use mathlib.Core.Logic.{_⊎_, inl, inr, ⊎-elim}
@@ -11,7 +11,7 @@ use lib.Dec.{eqb, leb}
 use lib.ListN.{length, getD}
 use Rattle.flash.specs.Flash.{startOf}
 use Rattle.session.specs.Codes.{stalled}
-use Rattle.session.specs.Session.{wholeUpload, freshOf}
+use Rattle.session.specs.Session.{appEnd, phaseOf, downOf, upOf, wholeUpload, freshOf}
 use Rattle.session.specs.Rules.{fitOf}
 use Rattle.session.specs.declared.Session.{Session}
 use Rattle.session.proofs.Tests.{left-of, right-of}
@@ -24,28 +24,45 @@ use Rattle.loader.specs.Reply.{getstatusOf, getstateOf, queryOf, answered}
 use Rattle.loader.specs.Upload.{uploadOf}
 use Rattle.loader.specs.Step.{ready, served, stepOf}
 use Rattle.demands.specs.Calls.{Call, Site, called}
-use Rattle.demands.specs.One.{heard, InError, Stalled, FaultStatus, Faulted, AsFresh, AnswerRows, Refused}
+use Rattle.demands.specs.One.{heard, Settled, InError, Stalled, FaultStatus, Faulted, AsFresh, AnswerRows, Refused}
 use Rattle.demands.specs.One.{allowedCall, SaysDnload, Prepared, UnfitExactly, StalledExactly}
 use Rattle.demands.proofs.Ways.{pick, every-way}
 
--- what a move to state 10 leaves
-errored : (s : Session) (status : ℕ) → InError s (toError s status) status
-unfolding movedTo
-errored s status =
+-- what a move to state 10 leaves, and what a RESET does
+settled :
+    (s : Session) (state status choice flag first len : ℕ)
+    → Settled s
+    (record {
+      board = s .board;
+      phase = phaseOf state status 2;
+      down = downOf 0 0;
+      up = upOf choice flag first len 0;
+      sums = s .sums;
+    })
+    state status choice flag first len
+settled s state status choice flag first len =
     record {
       board = refl;
-      state = refl;
+      in-state = refl;
       told = refl;
       after-sync = refl;
       down-place = refl;
       down-left = refl;
-      choice = refl;
+      chosen = refl;
       prefix-flag = refl;
       range-first = refl;
       range-length = refl;
       up-place = refl;
       sums = refl;
     }
+
+errored : (s : Session) (status : ℕ) → InError s (toError s status) status
+unfolding movedTo
+errored s status = settled s 10 status (s .up .choice) (s .up .«prefix») (s .up .first .0) (s .up .len)
+
+freshened : (s : Session) → AsFresh s (resetOf s .session)
+unfolding resetOf freshOf wholeUpload
+freshened s = settled s 2 0 0 1 (s .board .a .0) (startOf (appEnd (s .board) - s .board .a .0))
 
 stalled-row :
     (at : Site) (c : Call) → allowedCall at c ≡ false
@@ -58,24 +75,6 @@ stalled-row at c n =
       quiet = record { count = refl; flash = refl; reply = refl };
       in-ten = λ e. rw (eq-eqb (s .phase .state .0) 10 e);
       elsewhere = λ n. rw (ne-eqb (s .phase .state .0) 10 n) (errored s 0x0F);
-    }
-
-freshened : (s : Session) → AsFresh s (resetOf s .session)
-unfolding resetOf freshOf wholeUpload
-freshened s =
-    record {
-      board = refl;
-      state = refl;
-      status = refl;
-      after-sync = refl;
-      down-place = refl;
-      down-left = refl;
-      choice = refl;
-      prefix-flag = refl;
-      range-first = refl;
-      range-length = refl;
-      up-place = refl;
-      sums = refl;
     }
 
 -- a call that is taken is in none of the rows

@@ -42,21 +42,29 @@ pub record Quiet (at : Site) (c : Call) (l : Leaves) : Type 0 where
   pub flash : l .flash ≡ at .flash
   pub reply : l .reply ≡ c .reply
 
--- t is s gone to state 10 with a status: the state after sync is 2, the download is dropped, the upload is at its stream's first
--- byte; A, B, part numbers, the upload's choice, prefix flag and range, and the sums stay
-pub record InError (s t : Session) (status : ℕ) : Type 0 where
+-- t is s gone to a state with a status, and to an upload of some choice, prefix flag and range: the state after sync is 2, the
+-- download is dropped, the upload is at its stream's first byte; A, B, part numbers and the sums stay
+pub record Settled (s t : Session) (state status choice flag first len : ℕ) : Type 0 where
   pub board : t .board ≡ s .board
-  pub state : t .phase .state .0 ≡ 10
+  pub in-state : t .phase .state .0 ≡ state
   pub told : t .phase .status .0 ≡ status
   pub after-sync : t .phase .after .0 ≡ 2
   pub down-place : t .down .place .0 ≡ 0
   pub down-left : t .down .left ≡ 0
-  pub choice : t .up .choice ≡ s .up .choice
-  pub prefix-flag : t .up .«prefix» ≡ s .up .«prefix»
-  pub range-first : t .up .first .0 ≡ s .up .first .0
-  pub range-length : t .up .len ≡ s .up .len
+  pub chosen : t .up .choice ≡ choice
+  pub prefix-flag : t .up .«prefix» ≡ flag
+  pub range-first : t .up .first .0 ≡ first
+  pub range-length : t .up .len ≡ len
   pub up-place : t .up .place ≡ 0
   pub sums : t .sums ≡ s .sums
+
+-- in state 10, the upload's choice, prefix flag and range as they were
+abbrev pub InError : Session → Session → ℕ → Type 0
+InError s t status = Settled s t 10 status (s .up .choice) (s .up .«prefix») (s .up .first .0) (s .up .len)
+
+-- as fresh: state 2, status 0, the flash stream with its prefix over all of the application
+abbrev pub AsFresh : Session → Session → Type 0
+AsFresh s t = Settled s t 2 0 0 1 (s .board .a .0) (startOf (appEnd (s .board) - s .board .a .0))
 
 -- whether the setup has the form of a request that the session's state allows; a setup of no form is allowed in none
 abbrev pub allowedCall : Site → Call → Bool
@@ -87,22 +95,6 @@ pub record Faulted (at : Site) (c : Call) (l : Leaves) : Type 0 where
   pub quiet : Quiet at c l
   pub status : FaultStatus (l .outcome .session .phase .status .0)
   pub in-error : InError (at .session) (l .outcome .session) (l .outcome .session .phase .status .0)
-
--- t is as fresh, with s's A, B, part numbers and sums: state 2, status 0, no download, the flash stream with its prefix over all of
--- the application, from its first byte
-pub record AsFresh (s t : Session) : Type 0 where
-  pub board : t .board ≡ s .board
-  pub state : t .phase .state .0 ≡ 2
-  pub status : t .phase .status .0 ≡ 0
-  pub after-sync : t .phase .after .0 ≡ 2
-  pub down-place : t .down .place .0 ≡ 0
-  pub down-left : t .down .left ≡ 0
-  pub choice : t .up .choice ≡ 0
-  pub prefix-flag : t .up .«prefix» ≡ 1
-  pub range-first : t .up .first .0 ≡ s .board .a .0
-  pub range-length : t .up .len ≡ startOf (appEnd (s .board) - s .board .a .0)
-  pub up-place : t .up .place ≡ 0
-  pub sums : t .sums ≡ s .sums
 
 -- a DNLOAD in state 2 of the eight bytes of RESET, number 7
 pub record ResetCommand (at : Site) (c : Call) : Type 0 where
