@@ -102,21 +102,23 @@ fn change_bytes(before: &[u8], after: &[u8]) -> Vec<u8> {
 
 /// The session as the header's struct lies, with zeros for its padding.
 fn session_bytes(session: &Session) -> Vec<u8> {
-    let mut bytes = Vec::with_capacity(304);
-    for number in [session.a, session.b, session.part0, session.part1] {
-        bytes.extend(number.to_le_bytes());
-    }
-    bytes.extend([session.state, session.status, session.after, 0]);
-    bytes.extend(session.down_place.to_le_bytes());
-    bytes.extend(session.down_left.to_le_bytes());
-    bytes.extend([session.up_choice, session.up_prefix, 0, 0]);
-    for number in [session.up_first, session.up_len, session.up_place] {
-        bytes.extend(number.to_le_bytes());
-    }
-    for sum in session.sums.iter().chain([&session.whole]) {
-        bytes.extend(sum.to_le_bytes());
-    }
+    let phase = [session.state, session.status, session.after, 0];
+    let upload = [session.up_choice, session.up_prefix, 0, 0];
+    let mut bytes = words(&[session.a, session.b, session.part0, session.part1]);
+    bytes.extend(phase);
+    bytes.extend(words(&[session.down_place, session.down_left]));
+    bytes.extend(upload);
+    bytes.extend(words(&[session.up_first, session.up_len, session.up_place]));
+    bytes.extend(words(&session.sums));
+    bytes.extend(session.whole.to_le_bytes());
     bytes
+}
+
+fn words(numbers: &[u32]) -> Vec<u8> {
+    numbers
+        .iter()
+        .flat_map(|number| number.to_le_bytes())
+        .collect()
 }
 
 #[cfg(test)]
