@@ -61,7 +61,7 @@ faults: build/libboard.a
 # The same kind of histories from C, on the library as it ships, each buffer beside pages that trap.
 replay: build/libboard.a
 	tools/shipped build/replay tests/replay.c
-	$(HOST) tape -- 20261116 1200 | tools/run build/replay > build/replay.said || { cat build/replay.said; false; }
+	$(HOST) record -- 20261116 1200 | tools/run build/replay > build/replay.said || { cat build/replay.said; false; }
 	@cat build/replay.said
 
 # And under AddressSanitizer and UndefinedBehaviorSanitizer, which must speak up where a board breaks its word.
@@ -70,11 +70,13 @@ checked: build/libboard.a
 	build/checked/example > build/checked/example.out
 	cmp build/checked/example.out examples/board.out
 	$(CC) $(CHECKED) tests/replay.c build/checked/libboard.a -o build/checked/replay
-	$(HOST) tape -- 20261117 300 | build/checked/replay > build/checked.said || { cat build/checked.said; false; }
+	$(HOST) record -- 20261117 300 | build/checked/replay > build/checked.said || { cat build/checked.said; false; }
 	@cat build/checked.said
 	$(CC) $(CHECKED) tests/liar.c build/checked/libboard.a -o build/checked/liar
-	! build/checked/liar 2> build/checked/liar.said
-	grep -q 'AddressSanitizer: heap-buffer-overflow' build/checked/liar.said
+	! build/checked/liar read 2> build/checked/liar.said
+	grep -q '^READ of size' build/checked/liar.said
+	! build/checked/liar write 2> build/checked/liar.said
+	grep -q '^WRITE of size' build/checked/liar.said
 
 # A technician's visit on a simulated board, through the proved calls. ARGS holds its flags: make demo ARGS=--help
 demo: build/libboard.a
@@ -85,5 +87,6 @@ quoted: differ faults replay checked
 	$(BOARD) visit > build/visit.said
 	grep . build/visit.said > build/demo.said
 	sed -n '/^`make demo` prints/,/^`make test` prints/s/^    //p' README.md | cmp - build/demo.said
+	! grep -n '@[A-Z]*@' README.md docs/*.md docs/landings/*.md
 	cat build/differ.said build/faults.said build/replay.said build/checked.said > build/test.said
 	sed -n '/^`make test` prints/,/^## /s/^    //p' README.md | cmp - build/test.said

@@ -7,7 +7,7 @@
  *
  * What the board owes, since no proof can see it:
  *  - a pointer with a length points at that many bytes, which the call may read, and write where it is not const. With the length
- *    0 it still is not null;
+ *    0 it still is not null. ERASE and downloads are plain stores into the flash that is lent, so it is memory that takes them;
  *  - the session is a session of this type, at an address that suits it;
  *  - what is written (session, flash, reply) overlaps with nothing else that the same call is lent;
  *  - nobody else writes any of it while a call runs, nor the flash and the session between two calls.
@@ -33,8 +33,8 @@ extern "C" {
 enum mullirim_code {
     MULLIRIM_TAKEN = 0,      /* carried out: the first `count` bytes of the reply buffer are the answer */
     MULLIRIM_STALLED = 1,    /* wrong form, or not allowed in this state: stall the transfer */
-    MULLIRIM_UNFIT = 2,      /* lengths or the session are not as they must be: nothing was done */
-    MULLIRIM_FAULTED = 3,    /* a download that can't be done: the host hears why by GETSTATUS */
+    MULLIRIM_UNFIT = 2,      /* lengths or the session are not as they must be: the board's own slip; nothing was done, stall */
+    MULLIRIM_FAULTED = 3,    /* a download that can't be done: acknowledge it, the host hears why by GETSTATUS */
     MULLIRIM_RESET_ASKED = 4 /* the host asks for a restart: the board's to do, after it acknowledged the transfer */
 };
 
@@ -42,8 +42,8 @@ enum mullirim_code {
 struct mullirim_board {
     uint32_t first;  /* the block at which the application starts, 1 or more */
     uint32_t blocks; /* the blocks of the flash, more than `first` and at most MULLIRIM_MOST_BLOCKS */
-    uint32_t part;   /* the two part numbers, which INFO reports */
-    uint32_t klass;
+    uint32_t part;   /* the first part number, which INFO reports */
+    uint32_t klass;  /* the second part number, of the part's class, which INFO reports behind it */
 };
 
 /* Where the conversation with the host stands. */

@@ -1,6 +1,6 @@
 /*
- * Plays a tape of calls through the library and holds all that each call leaves to what the tape says. The tape comes on standard
- * input, from host/src/bin/tape.rs; its numbers are little-endian.
+ * Plays a recording of calls through the library and holds all that each call leaves to what the recording says. It comes on standard
+ * input, from host/src/bin/record.rs; its numbers are little-endian.
  *
  *   'S' flash length lent, first, blocks, part, klass (32 bits each), ROOM bytes of flash; answer (8 bits), session
  *   'R' session; lengths of flash, setup, data and reply (32 bits each), setup, data;
@@ -31,7 +31,7 @@ static void fail(const char *what)
 static void read_bytes(void *to, size_t len)
 {
     if (fread(to, 1, len, stdin) != len)
-        fail("the tape ends early");
+        fail("the recording ends early");
 }
 
 static uint32_t read_number(size_t most)
@@ -41,7 +41,7 @@ static uint32_t read_number(size_t most)
     read_bytes(b, 4);
     uint32_t n = b[0] | (uint32_t)b[1] << 8 | (uint32_t)b[2] << 16 | (uint32_t)b[3] << 24;
     if (n > most)
-        fail("the tape has a number out of bounds");
+        fail("the recording has a number out of bounds");
     return n;
 }
 
@@ -69,6 +69,13 @@ static uint8_t *lend(struct loan *l, const void *from, size_t len)
 #endif
     memcpy(l->at, from, len);
     return l->at;
+}
+
+/* What was lent to be read only must come back as it went. */
+static void same_loan(const struct loan *l, const void *lent, size_t len)
+{
+    if (memcmp(l->at, lent, len))
+        fail("setup or data was written to");
 }
 
 static void give_back(struct loan *l, void *to, size_t len)
@@ -115,7 +122,7 @@ static void play_start(void)
     same_session(&s.session);
 }
 
-/* The outcome, once the tape's own change is made to `flash` and its reply to `reply`. */
+/* The outcome, once the recording's own change is made to `flash` and its reply to `reply`. */
 static void same_outcome(struct mullirim_answer a, const struct mullirim_session *s, const uint8_t *f, size_t flash_len, const uint8_t *r,
                          size_t reply_len)
 {
@@ -149,6 +156,8 @@ static void play_request(void)
     struct mullirim_session *lent = (void *)lend(&s, &session, sizeof session);
     struct mullirim_answer a = mullirim_request(lent, lend(&f, flash, flash_len), flash_len, lend(&u, setup, setup_len), setup_len,
                                                 lend(&d, data, data_len), data_len, lend(&r, reply, reply_len), reply_len);
+    same_loan(&u, setup, setup_len);
+    same_loan(&d, data, data_len);
     give_back(&s, &session, sizeof session);
     give_back(&f, flash_after, flash_len);
     give_back(&u, setup, setup_len);
@@ -167,10 +176,10 @@ int main(void)
         else if (kind == 'R')
             play_request();
         else
-            fail("the tape has no such record");
+            fail("the recording has no such part");
     }
     if (read_number(UINT32_MAX) != requests || getchar() != EOF)
-        fail("the tape does not end as it says");
-    printf("%u requests after %u starts replayed: all as on the tape\n", (unsigned)requests, (unsigned)starts);
+        fail("the recording does not end as it says");
+    printf("%u requests after %u starts replayed: all as recorded\n", (unsigned)requests, (unsigned)starts);
     return 0;
 }

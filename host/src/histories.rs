@@ -63,36 +63,44 @@ impl History {
         }
     }
 
-    /// The start that the history goes on from. One in eight is told something
-    /// else than what the flash is; if refused, a few requests follow over the
-    /// session of zeros.
-    pub fn start(&mut self) -> (Start, u8) {
-        let mut call = Start {
+    /// The starts to make, one after the other: the right one, and in one
+    /// history of eight another before it, mostly to be refused.
+    pub fn starts(&mut self) -> Vec<Start> {
+        let right = Start {
             lent: (self.b * BLOCK) as usize,
             a: self.session.a as u16,
             b: self.b as u16,
             part0: self.dice.turn() as u32,
             part1: self.dice.turn() as u32,
         };
-        if self.dice.below(8) == 0 {
-            let near = |n: u16, by: u32| (u32::from(n) + by).wrapping_sub(1) as u16;
-            match self.dice.below(5) {
-                0 => call.a = [0, call.b, call.b + 1, 65_535][self.dice.below(4) as usize],
-                1 => call.b = [0, 65, 64, call.a, 65_535][self.dice.below(5) as usize],
-                2 => call.lent = self.lent_wrong(),
-                3 => call.a = near(call.a, self.dice.below(3)),
-                _ => call.b = near(call.b, self.dice.below(3)),
-            }
+        match self.dice.below(8) {
+            0 => vec![self.other(&right), right],
+            _ => vec![right],
         }
+    }
+
+    /// A start with one thing changed, or of 65 blocks with all their bytes.
+    fn other(&mut self, right: &Start) -> Start {
+        let near = |n: u16, by: u32| (u32::from(n) + by).wrapping_sub(1) as u16;
+        let mut start = Start { ..*right };
+        match self.dice.below(7) {
+            0 => start.a = [0, start.b, start.b + 1, 65_535][self.dice.below(4) as usize],
+            1 => start.b = [0, 65, 64, start.a, 65_535][self.dice.below(5) as usize],
+            2 => start.lent = self.lent_wrong(),
+            3 => start.a = near(start.a, self.dice.below(3)),
+            4 => start.b = near(start.b, self.dice.below(3)),
+            _ => (start.b, start.lent) = (65, FLASH_ROOM),
+        }
+        start
+    }
+
+    /// Lets the second loader make a start.
+    pub fn begin(&mut self, call: &Start) -> u8 {
         let (a, b) = (u32::from(call.a), u32::from(call.b));
         let lent = &self.flash[..call.lent];
         let (answer, session) = start(lent, a, b, call.part0, call.part1);
-        match answer {
-            answer::TAKEN => self.b = b,
-            _ => self.length = 6,
-        }
         self.session = session;
-        (call, answer)
+        answer
     }
 
     fn lent_wrong(&mut self) -> usize {
@@ -104,30 +112,47 @@ impl History {
     /// The next call. It is lent the session that the last one left, unless
     /// the history is a wild one.
     pub fn call(&mut self) -> Call {
+        let session = self.lent_session();
+        let lent = self.lent_flash(&session);
         let dice = &mut self.dice;
-        let session = match dice.below(12) {
-            0 if self.wild => sessions::fit(dice, self.b),
-            1 if self.wild => sessions::altered(dice, self.session.clone()),
-            2 if self.wild && dice.below(4) == 0 => sessions::junk(dice),
-            _ => self.session.clone(),
-        };
-        let (setup, data) = match session.fits() && session.b == self.b {
-            true => choose(dice, &session, &self.flash[..(self.b * BLOCK) as usize]),
+        let (setup, data) = match session.fits() && lent == (session.b * BLOCK) as usize {
+            true => choose(dice, &session, &self.flash[..lent]),
             false => any_request(dice),
+        };
+        let room = match dice.below(48) {
+            0 => [0, 1, 1_000, 1_023][dice.below(4) as usize],
+            1 => [1_025, 1_026, 2_047, REPLY_ROOM][dice.below(4) as usize],
+            _ => TRANSFER,
         };
         Call {
             session,
-            lent: match self.dice.below(96) {
-                0 => self.lent_wrong(),
-                _ => (self.b * BLOCK) as usize,
-            },
+            lent,
             setup,
             data,
-            room: match self.dice.below(48) {
-                0 => [0, 1, 1_000, 1_023][self.dice.below(4) as usize],
-                1 => [1_025, 1_026, 2_047, REPLY_ROOM][self.dice.below(4) as usize],
-                _ => TRANSFER,
-            },
+            room,
+        }
+    }
+
+    fn lent_session(&mut self) -> Session {
+        let dice = &mut self.dice;
+        match dice.below(48) {
+            _ if !self.wild => self.session.clone(),
+            0..=3 => sessions::fit(dice, self.b),
+            4..=8 => sessions::altered(dice, self.session.clone()),
+            9 => sessions::junk(dice),
+            10 => Session::zeros(),
+            _ => self.session.clone(),
+        }
+    }
+
+    /// As many bytes as the history's flash has; where another session is lent,
+    /// often as many as that one speaks of.
+    fn lent_flash(&mut self, session: &Session) -> usize {
+        let named = session.b.saturating_mul(BLOCK) as usize;
+        match self.dice.below(96) {
+            0 => self.lent_wrong(),
+            1..=60 if named <= FLASH_ROOM => named,
+            _ => (self.b * BLOCK) as usize,
         }
     }
 
@@ -143,6 +168,7 @@ impl History {
         );
         if outcome.answer != answer::UNFIT {
             self.session = outcome.session.clone();
+            self.b = outcome.session.b;
         }
         outcome
     }
@@ -198,33 +224,29 @@ mod tests {
     #[test]
     fn tame_histories_keep_their_sums() {
         for number in [0, 2, 40, 42] {
-            let mut history = History::new(5, number);
-            let (call, answer) = history.start();
-            if answer != answer::TAKEN {
-                continue;
-            }
-            for _ in 0..history.length {
-                let call = history.call();
-                history.serve(&call, &mut [0; REPLY_ROOM]);
-            }
-            let flash = &history.flash[..call.lent];
-            let (_, anew) = start(flash, call.a.into(), call.b.into(), 0, 0);
+            let history = played(5, number);
             let kept = &history.session;
+            let flash = &history.flash[..(kept.b * BLOCK) as usize];
+            let (_, anew) = start(flash, kept.a, kept.b, 0, 0);
             assert_eq!((kept.sums, kept.whole), (anew.sums, anew.whole));
         }
     }
 
     #[test]
     fn a_history_is_the_same_again() {
-        let play = || {
-            let mut history = History::new(6, 7);
-            history.start();
-            for _ in 0..50 {
-                let call = history.call();
-                history.serve(&call, &mut [0; REPLY_ROOM]);
-            }
-            (history.flash, history.session)
-        };
-        assert!(play() == play());
+        let (one, other) = (played(6, 7), played(6, 7));
+        assert!((one.flash, one.session) == (other.flash, other.session));
+    }
+
+    fn played(seed: u64, number: u64) -> History {
+        let mut history = History::new(seed, number);
+        for start in history.starts() {
+            history.begin(&start);
+        }
+        for _ in 0..history.length {
+            let call = history.call();
+            history.serve(&call, &mut [0; REPLY_ROOM]);
+        }
+        history
     }
 }

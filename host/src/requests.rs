@@ -3,7 +3,7 @@
 
 use crate::dice::Dice;
 use crate::second::{command, state, Session, BLOCK, ERASED};
-use crate::tape::{header, setup};
+use crate::tape::{header, setup, QUERY};
 
 /// The setup bytes and the data.
 pub type Request = (Vec<u8>, Vec<u8>);
@@ -12,12 +12,12 @@ pub type Request = (Vec<u8>, Vec<u8>);
 pub fn choose(dice: &mut Dice, session: &Session, flash: &[u8]) -> Request {
     match dice.below(24) {
         0 => strange(dice),
-        1 => {
+        1..=2 => {
             let call = sensible(dice, session, flash);
             damaged(dice, call)
         }
-        2 => any_request(dice),
-        3 => border(dice, session),
+        3 => any_request(dice),
+        4 => border(dice, session),
         _ => sensible(dice, session, flash),
     }
 }
@@ -44,7 +44,7 @@ pub fn any_request(dice: &mut Dice) -> Request {
         5 => request(0x21, 4, 0),
         6 => request(0xA1, 5, 1),
         7 => request(0x21, 6, 0),
-        _ => (vec![0xA1, 0x42, 0x23, 0, 0, 0, 4, 0], Vec::new()),
+        _ => (QUERY.to_vec(), Vec::new()),
     }
 }
 
@@ -56,7 +56,10 @@ fn strange(dice: &mut Dice) -> Request {
         0 => (dice.bytes(8), Vec::new()),
         1 => request(kind, number, dice.below(8)),
         2 => request(0xA1, 2, [0, 1_025, 65_535][dice.below(3) as usize]),
-        3 => dnload(dice.bytes(1_025)),
+        3 => {
+            let length = [1_025, 1_025, 1_032, 2_048, 65_535][dice.below(5) as usize];
+            dnload(dice.bytes(length))
+        }
         _ => {
             let length = dice.below(12);
             (dice.bytes(length), Vec::new())
@@ -104,12 +107,13 @@ fn border(dice: &mut Dice, session: &Session) -> Request {
 
 /// A good call with one thing wrong, or with one ignored byte changed.
 fn damaged(dice: &mut Dice, (mut setup, mut data): Request) -> Request {
-    match dice.below(6) {
+    match dice.below(7) {
         0 => setup.truncate(dice.below(8) as usize),
         1 => setup.push(0),
         2 => data.push(0),
         3 => data.truncate(data.len() / 2),
         4 => setup[2 + dice.below(2) as usize] = 1 + dice.below(255) as u8,
+        5 => setup[7] ^= 1 << dice.below(8),
         _ => setup[dice.below(8) as usize] ^= 1 << dice.below(8),
     }
     (setup, data)
@@ -135,7 +139,7 @@ fn any_status(dice: &mut Dice) -> Request {
     match dice.below(3) {
         0 => request(0xA1, 3, 6),
         1 => request(0xA1, 5, 1),
-        _ => (vec![0xA1, 0x42, 0x23, 0, 0, 0, 4, 0], Vec::new()),
+        _ => (QUERY.to_vec(), Vec::new()),
     }
 }
 
@@ -160,7 +164,22 @@ fn piece(dice: &mut Dice, left: u32) -> Vec<u8> {
     dice.bytes(length)
 }
 
+/// A command, now and then good but for its length: cut short, or with bytes
+/// behind it that only a PROG may have.
 fn a_command(dice: &mut Dice, session: &Session, flash: &[u8]) -> Vec<u8> {
+    let mut data = whole_command(dice, session, flash);
+    match dice.below(16) {
+        0 => data.truncate(1 + dice.below(7) as usize),
+        1 => {
+            let more = 1 + dice.below(9);
+            data.extend(dice.bytes(more));
+        }
+        _ => {}
+    }
+    data
+}
+
+fn whole_command(dice: &mut Dice, session: &Session, flash: &[u8]) -> Vec<u8> {
     let (block, count) = blocks(dice, session);
     match dice.below(20) {
         0..=3 => header(command::ERASE, block, count).to_vec(),
@@ -171,29 +190,34 @@ fn a_command(dice: &mut Dice, session: &Session, flash: &[u8]) -> Vec<u8> {
         16 => header(command::INFO, block, count).to_vec(),
         17 => vec![command::BIN, dice.below(3) as u8, 1, 2, 3, 4, 5, 6],
         18 => header(command::RESET, block, count).to_vec(),
-        _ => {
-            let length = 1 + dice.below(16);
-            [vec![dice.below(10) as u8], dice.bytes(length)].concat()
-        }
+        _ => header(dice.below(256) as u8, block, count).to_vec(),
     }
 }
 
-/// Blocks to erase: a few, often up to the very end, at times past it. The
-/// high half of the count is sometimes set, since ERASE must not read it.
+/// Blocks to erase: a few, often up to the very end. At times just outside of
+/// the application, or numbers that would lie in it if they were cut short;
+/// and the high half of the count is set, since ERASE must not read it.
 fn blocks(dice: &mut Dice, session: &Session) -> (u16, u32) {
     let room = session.b - session.a;
     let offset = dice.below(room);
-    let count = match dice.below(10) {
-        0 => 0,
-        1 => room - offset + 1,
-        2 => room - offset,
-        _ => 1 + dice.below((room - offset).min(4)),
+    let block = session.a + offset;
+    let some = 1 + dice.below((room - offset).min(4));
+    let (block, count) = match dice.below(20) {
+        0 => (block, 0),
+        1 => (block, room - offset + 1),
+        2..=3 => (block, room - offset),
+        4 => (session.a - 1, some),
+        5 => (session.b, 1),
+        6 => (block + 256 * (1 + dice.below(255)), some),
+        7 => (block, some + 256 * (1 + dice.below(255))),
+        8 => (block, some + 16_384 * (1 + dice.below(3))),
+        _ => (block, some),
     };
     let high = match dice.below(6) {
         0 => dice.below(65_536) << 16,
         _ => 0,
     };
-    ((session.a + offset) as u16, count | high)
+    (block as u16, count | high)
 }
 
 /// A block and length for READ or CHECK, near every edge of the application.
@@ -202,7 +226,7 @@ fn ranged(dice: &mut Dice, session: &Session, number: u8) -> Vec<u8> {
     let offset = dice.below(room);
     let bytes = (room - offset) * BLOCK;
     let block = (session.a + offset) as u16;
-    let (block, length) = match dice.below(12) {
+    let (block, length) = match dice.below(14) {
         0 => (block, 0),
         1 => (block, bytes + 1),
         2 => (block, u32::MAX - dice.below(70_000)),
@@ -210,6 +234,8 @@ fn ranged(dice: &mut Dice, session: &Session, number: u8) -> Vec<u8> {
         4 => (session.b as u16, 1),
         5 => (dice.below(65_536) as u16, 1 + dice.below(2_000)),
         6 => (block, bytes),
+        7 => (block + 256, 1 + dice.below(bytes)),
+        8 => (block, (1 + dice.below(bytes)) | 1 << (17 + dice.below(15))),
         _ => (block, 1 + dice.below(bytes.min(3_000))),
     };
     header(number, block, length).to_vec()

@@ -85,11 +85,16 @@ fn at_most(dice: &mut Dice, most: u32) -> u32 {
     }
 }
 
+/// Every state, status and flag, and what lies between and beside them.
+const BYTES: [u8; 18] = [
+    0, 1, 2, 3, 4, 5, 6, 7, 8, 9, 10, 11, 12, 13, 14, 15, 16, 255,
+];
+
 /// A session with one field changed. Mostly that breaks a rule; where it
 /// doesn't, the session is to be served.
 pub fn altered(dice: &mut Dice, mut session: Session) -> Session {
     let number = strange_number(dice, &session);
-    let byte = [0, 1, 2, 3, 4, 5, 6, 7, 8, 9, 10, 11, 15, 255][dice.below(14) as usize];
+    let byte = BYTES[dice.below(BYTES.len() as u32) as usize];
     match dice.below(14) {
         0 => session.a = number,
         1 => session.b = number,
@@ -110,20 +115,25 @@ pub fn altered(dice: &mut Dice, mut session: Session) -> Session {
 }
 
 /// A number near a border of the session's own: its blocks, its addresses, its
-/// read range, or the ends of 32 bits.
+/// read range, the ends of 32 bits, or a block whose address would wrap into the
+/// application.
 fn strange_number(dice: &mut Dice, session: &Session) -> u32 {
+    let (start, end) = (session.a.wrapping_mul(BLOCK), session.b.wrapping_mul(BLOCK));
     let borders = [
         0,
         session.a,
         session.b,
-        session.a.wrapping_mul(BLOCK),
-        session.b.wrapping_mul(BLOCK),
+        start,
+        end,
+        end.wrapping_sub(session.down_place),
+        end.wrapping_sub(session.down_left),
+        end.wrapping_sub(session.up_first.wrapping_mul(BLOCK)),
         session.up_len,
         session.up_len.wrapping_add(8),
         20,
         64,
         65_536,
-        1 << 22,
+        session.up_first.wrapping_add(1 << 22),
         u32::MAX,
     ];
     let border = borders[dice.below(borders.len() as u32) as usize];

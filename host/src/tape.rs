@@ -38,7 +38,7 @@ pub fn read_record(script: &[u8]) -> Option<(&[u8], &[u8], &[u8])> {
 pub fn first_flash(a: u8, b: u8) -> Vec<u8> {
     let byte = |i: u32| {
         let block = i / BLOCK;
-        match block >= u32::from(a) && block.is_multiple_of(2) {
+        match block >= u32::from(a) && block % 2 == 0 {
             true => ERASED,
             false => ((i * 7 + i / 256) % 251) as u8,
         }
@@ -97,9 +97,12 @@ impl Tape {
     }
 
     pub fn query(&mut self) {
-        self.call(&[0xA1, 0x42, 0x23, 0, 0, 0, 4, 0], &[]);
+        self.call(&QUERY, &[]);
     }
 }
+
+/// The query, the one request that has a wValue of its own.
+pub const QUERY: [u8; 8] = [0xA1, 0x42, 0x23, 0, 0, 0, 4, 0];
 
 /// A setup with wValue and wIndex zero.
 pub fn setup(kind: u8, number: u8, length: u16) -> [u8; 8] {

@@ -3,8 +3,8 @@
 // A published value carries a final complement, and the sum of a DFU file has none. So each line
 // has the name, the length, the sum, and the complement of the sum, which is the published value.
 //
-// The sources named below are from memory, and were checked by value only: a second computation of
-// each message's sum gives the value, but no source was at hand to read it from.
+// The sources named below were not looked up: each value stood the test of a second computation of
+// its message's sum, but was not read from its source.
 use libc::STDOUT_FILENO;
 
 // Published values are the sum xor these bits.

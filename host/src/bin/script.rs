@@ -1,9 +1,7 @@
-//! Writes a script to standard output: `session`, `desk` or `random SEED COUNT`.
+//! Writes a script to standard output: `session` or `desk`.
 
 #[path = "script/desk.rs"]
 mod desk;
-#[path = "script/random.rs"]
-mod random;
 #[path = "script/session.rs"]
 mod session;
 
@@ -13,7 +11,7 @@ use std::process::ExitCode;
 fn main() -> ExitCode {
     let words: Vec<String> = std::env::args().skip(1).collect();
     let Some(script) = named(&words) else {
-        eprintln!("script session | desk | random SEED COUNT");
+        eprintln!("script session | desk");
         return ExitCode::FAILURE;
     };
     match io::stdout().write_all(&script) {
@@ -26,9 +24,6 @@ fn named(words: &[String]) -> Option<Vec<u8>> {
     match words {
         [name] if name == "session" => Some(session::script()),
         [name] if name == "desk" => Some(desk::script()),
-        [name, seed, count] if name == "random" => {
-            Some(random::script(seed.parse().ok()?, count.parse().ok()?))
-        }
         _ => None,
     }
 }
@@ -84,18 +79,5 @@ mod tests {
     fn the_desk_is_kept_in_order() {
         let seen = sessions(&desk::script());
         assert_eq!(seen.iter().filter(|(said, _)| *said == 4).count(), 14);
-    }
-
-    #[test]
-    fn random_scripts_reach_all() {
-        let seen: Vec<_> = (0..6)
-            .flat_map(|seed| sessions(&random::script(seed, 200)))
-            .collect();
-        reaches_all(&seen);
-    }
-
-    #[test]
-    fn a_random_script_ends_before_it_grows_too_long() {
-        assert!(random::script(3, 100_000).len() < 65_536);
     }
 }

@@ -1,23 +1,8 @@
-//! The published CRC-32 vectors a second time, one bit after the other and with no table: the
-//! lines that the program `vectors` must write. Standard library only.
-//! The sources of the values are named in that program, from memory: they were checked by value only, here and with zlib.
+//! The published CRC-32 vectors by the second loader's sum, one bit after the other and with no
+//! table: the lines that the program `vectors` must write. The values that it names stood the
+//! test of both sums and of zlib's; their sources were not looked up.
 
-/// The sum of a DFU file suffix: each bit of a byte, the lowest first, is compared with the low
-/// bit of the register, and where they differ the polynomial goes in.
-fn sum(bytes: &[u8]) -> u32 {
-    let mut register: u32 = 0xFFFF_FFFF;
-    for byte in bytes {
-        for place in 0..8 {
-            let bit = u32::from(byte >> place & 1);
-            let differs = register & 1 != bit;
-            register >>= 1;
-            if differs {
-                register ^= 0xEDB8_8320;
-            }
-        }
-    }
-    register
-}
+use mullirim_host::second::sum;
 
 /// The bytes from 0 to 31.
 const RISING: [u8; 32] = *b"\x00\x01\x02\x03\x04\x05\x06\x07\x08\x09\x0A\x0B\x0C\x0D\x0E\x0F\

@@ -36,8 +36,8 @@ type Compared = Result<Vec<Row>, String>;
 
 fn main() -> ExitCode {
     println!(
-        "{:<28} {:>9}  {:<30} {:>9} {:>7}  rounds",
-        "what", "ours", "beside", "theirs", "ratio"
+        "{:<25} {:>7} {:>9}  {:<30} {:>7} {:>6}  rounds",
+        "what", "ours", "a second", "beside", "theirs", "ratio"
     );
     let comparisons = [
         sums::compare,
@@ -56,9 +56,11 @@ fn main() -> ExitCode {
         }
     }
     println!(
-        "Microseconds, medians of {REPETITIONS}. Ratio: ours by theirs; below 1 ours is quicker."
+        "Microseconds, medians of {REPETITIONS}. A second: how often ours is done in one. Ratio: ours by theirs; below 1"
     );
-    println!("Rounds: the least and the greatest ratio within one round of all sides.");
+    println!(
+        "ours is quicker. Rounds: the least and the greatest ratio within one round of all sides."
+    );
     ExitCode::SUCCESS
 }
 

@@ -16,10 +16,10 @@ const HELP: &str = "\
 differ [--seed N] [--first N] [--requests N | --soak]
   --seed N      the seed of all histories (default 20261115)
   --first N     the number of the first history (default 0)
-  --requests N  stop after the history in which the Nth request falls (default 400000)
+  --requests N  stop after the history in which the Nth request falls (default 450000)
   --soak        go on until stopped, with a line of progress each second";
 
-struct Wish {
+struct Asked {
     seed: u64,
     first: u64,
     requests: u64,
@@ -32,8 +32,8 @@ fn main() -> ExitCode {
         println!("{HELP}");
         return ExitCode::SUCCESS;
     }
-    match wished(&words) {
-        Ok(wish) => run(&wish),
+    match asked_in(&words) {
+        Ok(asked) => run(&asked),
         Err(word) => {
             eprintln!("differ: {word}\n{HELP}");
             ExitCode::from(2)
@@ -41,46 +41,50 @@ fn main() -> ExitCode {
     }
 }
 
-fn wished(words: &[String]) -> Result<Wish, String> {
-    let mut wish = Wish {
+fn asked_in(words: &[String]) -> Result<Asked, String> {
+    let mut asked = Asked {
         seed: 20_261_115,
         first: 0,
-        requests: 400_000,
+        requests: 450_000,
         soak: false,
     };
     let mut words = words.iter();
     while let Some(word) = words.next() {
         let place = match word.as_str() {
             "--soak" => {
-                wish.soak = true;
+                asked.soak = true;
                 continue;
             }
-            "--seed" => &mut wish.seed,
-            "--first" => &mut wish.first,
-            "--requests" => &mut wish.requests,
+            "--seed" => &mut asked.seed,
+            "--first" => &mut asked.first,
+            "--requests" => &mut asked.requests,
             _ => return Err(format!("{word} is not known")),
         };
         let number = words.next().and_then(|number| number.parse().ok());
         *place = number.ok_or(format!("{word} wants a number"))?;
     }
-    Ok(wish)
+    Ok(asked)
 }
 
-fn run(wish: &Wish) -> ExitCode {
-    println!("seed {}, from history {}", wish.seed, wish.first);
+fn run(asked: &Asked) -> ExitCode {
+    println!("seed {}, from history {}", asked.seed, asked.first);
     let mut tally = Tally::new();
     let mut shown = Instant::now();
-    for number in wish.first.. {
-        if let Err(difference) = Pair::new(wish.seed, number).play(&mut tally) {
+    for number in asked.first.. {
+        if let Err(difference) = Pair::new(asked.seed, number).play(&mut tally) {
             println!("request {}: {difference}", tally.requests);
-            println!("again: --seed {} --first {number}", wish.seed);
+            println!("again: --seed {} --first {number}", asked.seed);
             return ExitCode::FAILURE;
         }
-        if wish.soak && shown.elapsed() >= Duration::from_secs(1) {
-            println!("{} requests, {} histories", tally.requests, tally.starts);
+        if asked.soak && shown.elapsed() >= Duration::from_secs(1) {
+            println!(
+                "{} requests, {} histories",
+                tally.requests,
+                number - asked.first + 1
+            );
             shown = Instant::now();
         }
-        if !wish.soak && tally.requests >= wish.requests {
+        if !asked.soak && tally.requests >= asked.requests {
             break;
         }
     }
@@ -103,18 +107,18 @@ fn finish(tally: &Tally) -> ExitCode {
 mod tests {
     use super::*;
 
-    fn read(words: &[&str]) -> Result<Wish, String> {
+    fn read(words: &[&str]) -> Result<Asked, String> {
         let words: Vec<String> = words.iter().map(|word| word.to_string()).collect();
-        wished(&words)
+        asked_in(&words)
     }
 
     #[test]
     fn words_are_read() {
-        let wish = read(&["--seed", "7", "--soak", "--first", "9"])
+        let asked = read(&["--seed", "7", "--soak", "--first", "9"])
             .ok()
             .unwrap();
-        assert_eq!((wish.seed, wish.first, wish.soak), (7, 9, true));
-        assert_eq!(wish.requests, 400_000);
+        assert_eq!((asked.seed, asked.first, asked.soak), (7, 9, true));
+        assert_eq!(asked.requests, 450_000);
         assert!(read(&["--seed"]).is_err_and(|word| word == "--seed wants a number"));
         assert!(read(&["--requests", "x"]).is_err());
         assert!(read(&["--sed", "7"]).is_err_and(|word| word == "--sed is not known"));

@@ -79,7 +79,7 @@ fn state(tape: &mut Tape) {
 }
 
 fn query(tape: &mut Tape) {
-    tape.call(&[0xA1, 0x42, 0x23, 0x00, 0x00, 0x00, 0x04, 0x00], &[]);
+    tape.query();
 }
 
 fn erase_all(tape: &mut Tape) {

@@ -82,11 +82,11 @@ pub struct Row {
 pub fn race(what: &str, mut sides: Vec<Side>) -> Vec<Row> {
     let counts: Vec<u32> = sides.iter_mut().map(Side::repetition).collect();
     let mut times = vec![Vec::new(); sides.len()];
-    for _ in 0..REPETITIONS {
-        for (at, side) in sides.iter_mut().enumerate() {
-            times[at].push(side.time(counts[at]));
-        }
-    }
+    let mut round = || {
+        let turn = |(at, side): (usize, &mut Side)| times[at].push(side.time(counts[at]));
+        sides.iter_mut().enumerate().for_each(turn);
+    };
+    (0..REPETITIONS).for_each(|_| round());
     let row = |at: usize| Row {
         what: what.to_string(),
         beside: sides[at].name.to_string(),
@@ -103,14 +103,23 @@ impl fmt::Display for Row {
         rounds.sort_by(f64::total_cmp);
         write!(
             out,
-            "{:<28} {ours:>9.2}  {:<30} {theirs:>9.2} {:>7.2}  {:.2} to {:.2}",
+            "{:<25} {:>7} {:>9.0}  {:<30} {:>7} {:>6.2}  {:.2} to {:.2}",
             self.what,
+            figures(ours),
+            1e6 / ours,
             self.beside,
+            figures(theirs),
             ours / theirs,
             rounds[0],
             rounds[rounds.len() - 1]
         )
     }
+}
+
+/// Three figures, or as many as a whole number has.
+fn figures(number: f64) -> String {
+    let decimals = 2 - number.log10().floor() as i32;
+    format!("{number:.*}", decimals.max(0) as usize)
 }
 
 fn ratios(ours: &[f64], theirs: &[f64]) -> Vec<f64> {
@@ -144,6 +153,13 @@ mod tests {
     }
 
     #[test]
+    fn three_figures_are_shown() {
+        assert_eq!(figures(0.031_24), "0.0312");
+        assert_eq!(figures(2.784), "2.78");
+        assert_eq!(figures(6_784.4), "6784");
+    }
+
+    #[test]
     fn the_sides_take_turns() {
         let order = RefCell::new(Vec::new());
         let side = |name: &'static str, long: u64| Side {
@@ -163,7 +179,7 @@ mod tests {
         let figures: Vec<&str> = row.split_whitespace().collect();
         assert_eq!(
             figures,
-            ["nothing", "60000.00", "theirs", "40000.00", "1.50", "1.50", "to", "1.50"]
+            ["nothing", "60000", "17", "theirs", "40000", "1.50", "1.50", "to", "1.50"]
         );
     }
 

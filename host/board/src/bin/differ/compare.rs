@@ -2,7 +2,7 @@
 
 use crate::tally::Tally;
 use mullirim_board::{request, start, Session};
-use mullirim_host::histories::{Call, History, REPLY_ROOM};
+use mullirim_host::histories::{Call, History, Start, REPLY_ROOM};
 use mullirim_host::second;
 
 /// What the proved loader left and what the second one awaits.
@@ -29,7 +29,9 @@ impl Pair {
     }
 
     pub fn play(&mut self, tally: &mut Tally) -> Same {
-        self.start(tally)?;
+        for start in self.history.starts() {
+            self.start(&start, tally)?;
+        }
         for _ in 0..self.history.length {
             let call = self.history.call();
             self.call(&call, tally)
@@ -38,11 +40,11 @@ impl Pair {
         Ok(())
     }
 
-    fn start(&mut self, tally: &mut Tally) -> Same {
-        let (call, answer) = self.history.start();
+    fn start(&mut self, call: &Start, tally: &mut Tally) -> Same {
         let lent = &self.flash[..call.lent];
         let started = start(lent, call.a, call.b, call.part0, call.part1);
-        tally.start(answer);
+        let answer = self.history.begin(call);
+        tally.start(call, answer);
         same("start's answer", &started.code, &u32::from(answer))?;
         same_session(&started.session, &self.history.session)?;
         same_bytes("flash", &self.flash, &self.history.flash)

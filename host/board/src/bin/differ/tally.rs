@@ -1,6 +1,8 @@
 //! What a run has met, so that one which met too little is not called a success.
 
+use mullirim_host::histories::Start;
 use mullirim_host::second::{Outcome, Session};
+use std::collections::HashSet;
 use std::fmt;
 
 const ANSWERS: [&str; 5] = ["taken", "stalled", "unfit", "faulted", "reset asked"];
@@ -17,8 +19,9 @@ const STATUSES: [u8; 5] = [0x05, 0x08, 0x09, 0x0B, 0x0F];
 
 pub struct Tally {
     pub requests: u64,
-    pub starts: u64,
+    starts: u64,
     refused_starts: u64,
+    splits: HashSet<(u16, u16)>,
     answers: [u64; 5],
     unfit_sessions: u64,
     /// By the state that the request met and its answer.
@@ -32,6 +35,7 @@ impl Tally {
             requests: 0,
             starts: 0,
             refused_starts: 0,
+            splits: HashSet::new(),
             answers: [0; 5],
             unfit_sessions: 0,
             met: [[0; 5]; 6],
@@ -39,9 +43,12 @@ impl Tally {
         }
     }
 
-    pub fn start(&mut self, answer: u8) {
+    pub fn start(&mut self, call: &Start, answer: u8) {
         self.starts += 1;
-        self.refused_starts += u64::from(answer != 0);
+        match answer {
+            0 => _ = self.splits.insert((call.a, call.b)),
+            _ => self.refused_starts += 1,
+        }
     }
 
     pub fn request(&mut self, session: &Session, outcome: &Outcome) {
@@ -52,9 +59,12 @@ impl Tally {
         if let Some(state) = STATES.iter().position(|(state, _)| *state == session.state) {
             self.met[state][answer] += 1;
         }
+        // A status counts where it is set, not where a lent session had it.
+        let set = outcome.session != *session && outcome.session.state == 10;
         let left = outcome.session.status;
-        if let Some(status) = STATUSES.iter().position(|status| *status == left) {
-            self.statuses[status] += 1;
+        match STATUSES.iter().position(|status| *status == left) {
+            Some(status) if set => self.statuses[status] += 1,
+            _ => {}
         }
     }
 
@@ -93,11 +103,12 @@ impl fmt::Display for Tally {
             .collect();
         write!(
             out,
-            "{} requests in {} histories ({} starts refused, {} sessions unfit): {}. No difference.",
+            "{} requests ({} of them with an unfit session), {} starts ({} refused) on {} splits: {}. No difference.",
             self.requests,
+            self.unfit_sessions,
             self.starts,
             self.refused_starts,
-            self.unfit_sessions,
+            self.splits.len(),
             answers.join(", ")
         )
     }

@@ -97,7 +97,7 @@ fn length(bytes: usize) -> String {
 
 /// The fewest blocks are two, one before the split and one after it.
 fn fit_flash(bytes: usize) -> Result<(), String> {
-    if bytes.is_multiple_of(BLOCK_BYTES) && (2 * BLOCK_BYTES..=MOST_BYTES).contains(&bytes) {
+    if bytes % BLOCK_BYTES == 0 && (2 * BLOCK_BYTES..=MOST_BYTES).contains(&bytes) {
         return Ok(());
     }
     Err(format!(

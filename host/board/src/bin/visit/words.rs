@@ -1,6 +1,7 @@
 //! The words of the command line.
 
 use std::ffi::OsString;
+use std::os::unix::fs::MetadataExt;
 use std::path::{absolute, Path, PathBuf};
 
 pub const HELP: &str = "\
@@ -75,19 +76,46 @@ impl Words {
             ("--after", &self.after, "--image", &self.image),
         ];
         for (flag, path, other, taken) in pairs {
-            if path.is_some() && path.as_deref().map(place) == taken.as_deref().map(place) {
-                return Err(format!("{flag} must not name the file of {other}"));
+            let (path, taken) = (path.as_deref(), taken.as_deref());
+            if let (Some(path), Some(taken)) = (path, taken) {
+                apart(flag, path, other, taken)?;
             }
         }
         Ok(())
     }
 }
 
-/// Where a path leads, also before the file is there.
-fn place(path: &Path) -> PathBuf {
-    path.canonicalize()
-        .or_else(|_| absolute(path))
-        .unwrap_or_else(|_| path.to_path_buf())
+fn apart(flag: &str, path: &Path, other: &str, taken: &Path) -> Result<(), String> {
+    for (flag, path) in [(flag, path), (other, taken)] {
+        // The file would come to stand where the link points, unseen here.
+        if path.is_symlink() && !path.exists() {
+            return Err(format!("{flag} names a link that leads nowhere"));
+        }
+    }
+    match (place(path), place(taken)) {
+        (Some(one), Some(two)) if one == two => {
+            Err(format!("{flag} must not name the file of {other}"))
+        }
+        _ => Ok(()),
+    }
+}
+
+/// What tells one file from another.
+#[derive(PartialEq)]
+enum Place {
+    /// Its device and its number there, whatever names lead to it.
+    Here(u64, u64),
+    /// Where it will stand once it is written.
+    ToCome(PathBuf),
+}
+
+/// Nothing where no file can be, which writing it will find out.
+fn place(path: &Path) -> Option<Place> {
+    if let Ok(file) = path.metadata() {
+        return Some(Place::Here(file.dev(), file.ino()));
+    }
+    let folder = absolute(path).ok()?.parent()?.canonicalize().ok()?;
+    Some(Place::ToCome(folder.join(path.file_name()?)))
 }
 
 fn once<T>(slot: &mut Option<T>, flag: &str, value: T) -> Result<(), String> {
@@ -187,15 +215,46 @@ mod tests {
         refused(&["--save", "a", "--save", "b"], "--save is given twice");
     }
 
+    fn over(flag: &str, other: &str) -> String {
+        format!("{flag} must not name the file of {other}")
+    }
+
     #[test]
     fn no_file_is_written_over_another() {
-        let over = |flag, other| format!("{flag} must not name the file of {other}");
-        for flag in ["--save", "--after"] {
-            for other in ["--flash", "--image"] {
-                refused(&[flag, "x", other, "./x"], &over(flag, other));
-            }
-        }
+        refused(
+            &["--save", "x", "--flash", "./x"],
+            &over("--save", "--flash"),
+        );
+        refused(
+            &["--save", "x", "--image", "./x"],
+            &over("--save", "--image"),
+        );
+        refused(
+            &["--after", "x", "--flash", "x"],
+            &over("--after", "--flash"),
+        );
+        refused(
+            &["--after", "x", "--image", "x"],
+            &over("--after", "--image"),
+        );
         refused(&["--after", "x", "--save", "x"], &over("--save", "--after"));
         assert!(parsed(&["--after", "x", "--save", "y"]).is_ok());
+    }
+
+    #[test]
+    fn a_file_is_known_under_other_names_too() {
+        let folder = std::env::temp_dir().join(format!("visit-names-{}", std::process::id()));
+        std::fs::create_dir_all(folder.join("below")).unwrap();
+        let name = |file: &str| folder.join(file).to_str().unwrap().to_string();
+        std::fs::write(name("flash"), "f").unwrap();
+        std::fs::hard_link(name("flash"), name("hard")).unwrap();
+        std::os::unix::fs::symlink(name("nowhere"), name("link")).unwrap();
+        let words = ["--save", &name("hard"), "--flash", &name("flash")];
+        refused(&words, &over("--save", "--flash"));
+        let words = ["--save", &name("below/../new"), "--after", &name("new")];
+        refused(&words, &over("--save", "--after"));
+        let words = ["--save", &name("nowhere"), "--after", &name("link")];
+        refused(&words, "--after names a link that leads nowhere");
+        std::fs::remove_dir_all(folder).unwrap();
     }
 }

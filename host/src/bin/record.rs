@@ -1,6 +1,6 @@
-//! Writes histories with all that the second loader makes of them to standard
-//! output, for a program that has no second loader: `tape SEED HISTORIES`.
-//! `tests/replay.c` reads it, and says how a record is laid out.
+//! Writes a recording of histories to standard output, with all that the second
+//! loader makes of them: `record SEED HISTORIES`. `tests/replay.c` reads it, and
+//! says how it is laid out.
 
 use mullirim_host::histories::{Call, History, Start, REPLY_ROOM};
 use mullirim_host::second::{Outcome, Session};
@@ -13,13 +13,13 @@ fn main() -> ExitCode {
         .filter_map(|word| word.parse().ok())
         .collect();
     let [seed, histories] = words[..] else {
-        eprintln!("tape SEED HISTORIES");
+        eprintln!("record SEED HISTORIES");
         return ExitCode::from(2);
     };
     match write(seed, histories) {
         Ok(()) => ExitCode::SUCCESS,
         Err(error) => {
-            eprintln!("tape: {error}");
+            eprintln!("record: {error}");
             ExitCode::FAILURE
         }
     }
@@ -39,11 +39,18 @@ fn write(seed: u64, histories: u64) -> io::Result<()> {
 }
 
 fn history_bytes(history: &mut History) -> Vec<u8> {
-    let flash = history.flash.clone();
-    let (call, answer) = history.start();
-    let mut bytes = start_bytes(&call, &flash);
-    bytes.push(answer);
-    bytes.extend(session_bytes(&history.session));
+    let mut bytes = Vec::new();
+    for start in history.starts() {
+        bytes.extend(start_bytes(&start, &history.flash));
+        bytes.push(history.begin(&start));
+        bytes.extend(session_bytes(&history.session));
+    }
+    bytes.extend(calls_bytes(history));
+    bytes
+}
+
+fn calls_bytes(history: &mut History) -> Vec<u8> {
+    let mut bytes = Vec::new();
     let mut reply = [0xEE; REPLY_ROOM];
     for _ in 0..history.length {
         let call = history.call();
