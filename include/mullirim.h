@@ -33,7 +33,7 @@ extern "C" {
 enum mullirim_code {
     MULLIRIM_TAKEN = 0,      /* carried out: the first `count` bytes of the reply buffer are the answer */
     MULLIRIM_STALLED = 1,    /* wrong form, or not allowed in this state: stall the transfer */
-    MULLIRIM_UNFIT = 2,      /* lengths or the session are not as they must be: the board's own slip; nothing was done, stall */
+    MULLIRIM_UNFIT = 2,      /* lengths or the session are not as they must be: nothing was done; stall the transfer */
     MULLIRIM_FAULTED = 3,    /* a download that can't be done: acknowledge it, the host hears why by GETSTATUS */
     MULLIRIM_RESET_ASKED = 4 /* the host asks for a restart: the board's to do, after it acknowledged the transfer */
 };
@@ -43,13 +43,14 @@ struct mullirim_board {
     uint32_t first;  /* the block at which the application starts, 1 or more */
     uint32_t blocks; /* the blocks of the flash, more than `first` and at most MULLIRIM_MOST_BLOCKS */
     uint32_t part;   /* the first part number, which INFO reports */
-    uint32_t klass;  /* the second part number, of the part's class, which INFO reports behind it */
+    uint32_t klass;  /* the second part number, which INFO reports behind it */
 };
 
 /* Where the conversation with the host stands. */
 struct mullirim_phase {
     uint8_t state;  /* 2 idle, 3 download sync, 5 download idle, 6 manifest sync, 9 upload idle, 10 error */
-    uint8_t status; /* 0 outside state 10; in it 0x05, 0x08, 0x09, 0x0B or 0x0F */
+    uint8_t status; /* 0 outside state 10; in it 0x05 not erased, 0x08 range or too much data, 0x09 closed too early, 0x0B no
+                       command, 0x0F stalled */
     uint8_t after;  /* the state after sync: 2, or in state 3 also 5 */
 };
 
