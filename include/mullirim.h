@@ -42,8 +42,8 @@ enum mullirim_code {
 struct mullirim_board {
     uint32_t first;  /* the block at which the application starts, 1 or more */
     uint32_t blocks; /* the blocks of the flash, more than `first` and at most MULLIRIM_MOST_BLOCKS */
-    uint32_t part;   /* the first part number, which INFO reports */
-    uint32_t klass;  /* the second part number, which INFO reports behind it */
+    uint32_t part;   /* the first part number, the PARTID of the guide, which INFO reports */
+    uint32_t klass;  /* the second, its CLASSID, which INFO reports behind it */
 };
 
 /* Where the conversation with the host stands. */
