@@ -1,5 +1,6 @@
 -- What the user is promised: the proofs.
 pub mod Ways
+pub mod Asked
 pub mod OneOutside
 pub mod OneRefused
 pub mod OneFit

@@ -1,7 +1,7 @@
 -- The premises of demand 1 can be met: a flash of two blocks, the second the application's, and a call for each row of the answer
 -- table. Assumes nothing.
 use Prim.Native.Nat.{ℕ, _≤_}
-use mathlib.Core.Bool.{true, false}
+use mathlib.Core.Bool.{true}
 use mathlib.Core.List.{List, [], _∷_}
 use mathlib.Core.Logic.{inl, inr}
 use mathlib.Core.Path.{_≡_, refl, sym, ap, _∙_}
@@ -15,11 +15,15 @@ use Rattle.session.specs.Rules.{fitOf}
 use Rattle.session.specs.declared.Board.{Board}
 use Rattle.session.proofs.Laws.{fresh-fit}
 use Rattle.request.specs.Request.{wordAt, allowedOf, formOf, setupOf}
+use Rattle.request.specs.declared.Request.{Request}
 use Rattle.moves.specs.Moves.{stallOf, faultOf, resetOf}
 use Rattle.command.specs.Download.{wellFormed, carriedOut, commandOf, dnloadOf}
 use Rattle.loader.specs.Step.{served}
 use Rattle.demands.specs.Calls.{Call, Site, called, next}
-use Rattle.demands.specs.One.{OutsideApp, heard, InError, allowedCall, SaysDnload, Prepared, AllowedStart}
+use Rattle.demands.specs.Asked.{SaysDnload, Prepared, Form, Allowed, NoRequest}
+use Rattle.demands.specs.Asked.Form.{dnload}
+use Rattle.demands.specs.One.{OutsideApp, heard, InError, AllowedStart}
+use Rattle.demands.proofs.TwoForms.{no-request}
 use Rattle.demands.proofs.OneOutside.{outside-holds}
 use Rattle.demands.proofs.OneRefused.{refused-holds, unfit-exactly-holds, goes-on}
 use Rattle.demands.proofs.OneFit.{stays-fit-holds}
@@ -115,14 +119,13 @@ reset-prepared = dnload-prepared _ _ refl (refl, refl) refl
 pub not-prepared-met : Prepared small noSetup → ⊥
 not-prepared-met p = omega (arith, p .setup-bytes)
 
--- a call that is not allowed in its state, and one that is
-pub unallowed-met : allowedCall small clrstatus ≡ false
+-- a call that is no request which its state allows, and one that is
+pub no-request-met : NoRequest small clrstatus
 unfolding small freshOf formOf setupOf allowedOf
-unallowed-met = refl
+no-request-met = no-request small clrstatus prepared-met refl
 
-pub allowed-call-met : allowedCall small oneByte ≡ true
-unfolding small freshOf formOf setupOf allowedOf
-allowed-call-met = refl
+pub allowed-call-met : Form (oneByte .setup) 1 Request.Dnload × Allowed Request.Dnload 1 2
+allowed-call-met = (dnload (record { typed = refl; numbered = refl; no-index = refl; long = refl }) (omega arith), inl (refl, omega arith))
 
 -- each row's answer
 pub stalled-met : heard (called small clrstatus) ≡ 1

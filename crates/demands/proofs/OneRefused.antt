@@ -1,21 +1,15 @@
 -- The answers that refuse leave what their definitions write down, and a call is unfit by the first test alone. Assumes nothing.
 use Prim.Native.Nat.{ℕ, _-_}
-use mathlib.Core.Bool.{true, false, cond, _&&_, false≢true}
-use mathlib.Core.List.{List}
-use mathlib.Core.Logic.{_⊎_, inl, inr, ⊎-elim}
-use mathlib.Core.Path.{_≡_, refl, sym, ap, _∙_}
-use native.Mathlib.Decide.{ℕ-discrete}
+use mathlib.Core.Bool.{Bool, true, false, cond, false≢true}
+use mathlib.Core.Logic.{inr}
+use mathlib.Core.Path.{_≡_, refl, sym, ap, _∙_, subst, subst⁻¹}
 use native.Mathlib.Omega.{arith}
-use borrow.Author.Tests.{eqb-true, eq-eqb, ne-eqb, leb-true, le-leb}
-use lib.Dec.{eqb, leb}
-use lib.ListN.{length, getD}
+use borrow.Author.Tests.{eq-eqb, ne-eqb}
+use lib.ListN.{length}
 use Rattle.flash.specs.Flash.{startOf}
-use Rattle.session.specs.Codes.{stalled}
 use Rattle.session.specs.Session.{appEnd, phaseOf, downOf, upOf, wholeUpload, freshOf}
-use Rattle.session.specs.Rules.{fitOf}
 use Rattle.session.specs.declared.Session.{Session}
-use Rattle.session.proofs.Tests.{left-of, right-of}
-use Rattle.request.specs.Request.{wordAt, wLength, requestOf, setupOf, dataAsked}
+use Rattle.request.specs.Request.{wLength, requestOf, allowedOf}
 use Rattle.request.specs.declared.Request.{Request}
 use Rattle.moves.specs.Answers.{Leaves, leaves}
 use Rattle.moves.specs.Moves.{movedTo, toError, stallOf, unfitOf, faultOf, resetOf}
@@ -24,9 +18,12 @@ use Rattle.loader.specs.Reply.{getstatusOf, getstateOf, queryOf, answered}
 use Rattle.loader.specs.Upload.{uploadOf}
 use Rattle.loader.specs.Step.{ready, served, stepOf}
 use Rattle.demands.specs.Calls.{Call, Site, called}
+use Rattle.demands.specs.Asked.{Prepared, Form, Allowed, NoRequest}
 use Rattle.demands.specs.One.{heard, Settled, InError, Stalled, FaultStatus, Faulted, AsFresh, AnswerRows, Refused}
-use Rattle.demands.specs.One.{allowedCall, SaysDnload, Prepared, UnfitExactly, StalledExactly}
+use Rattle.demands.specs.One.{UnfitExactly, StalledExactly}
 use Rattle.demands.proofs.Ways.{pick, every-way}
+use Rattle.demands.proofs.Asked.{prepared-ready, ready-prepared}
+use Rattle.demands.proofs.TwoForms.{request-form, no-request, asks-stalled}
 
 -- what a move to state 10 leaves, and what a RESET does
 settled :
@@ -65,7 +62,7 @@ unfolding resetOf freshOf wholeUpload
 freshened s = settled s 2 0 0 1 (s .board .a .0) (startOf (appEnd (s .board) - s .board .a .0))
 
 stalled-row :
-    (at : Site) (c : Call) → allowedCall at c ≡ false
+    (at : Site) (c : Call) → NoRequest at c
     → Stalled at c (leaves (stallOf (at .session)) (at .flash) (c .reply))
 unfolding stallOf
 stalled-row at c n =
@@ -88,7 +85,7 @@ taken at c l e =
     }
 
 faulted-row :
-    (at : Site) (c : Call) → requestOf (c .setup) ≡ Request.Dnload → (status : ℕ) → FaultStatus status
+    (at : Site) (c : Call) → ((n : ℕ) × Form (c .setup) n Request.Dnload) → (status : ℕ) → FaultStatus status
     → Faulted at c (leaves (faultOf (at .session) status) (at .flash) (c .reply))
 unfolding faultOf movedTo
 faulted-row at c q status h =
@@ -99,22 +96,23 @@ faulted-row at c q status h =
       in-error = errored (at .session) status;
     }
 
-pub refused-holds : Refused
+-- the rows of a prepared call, and of any other
+in-form : (at : Site) (c : Call) → Prepared at c → requestOf (c .setup) ≡ Request.Dnload → (n : ℕ) × Form (c .setup) n Request.Dnload
+in-form at c p q = (
+  wLength (c .setup),
+  request-form (c .setup) (p .setup-bytes) Request.Dnload q (λ z. subst (λ (r : Request). Allowed r 0 5) z (inr refl)),
+)
+
+prepared-rows : (at : Site) (c : Call) → Prepared at c → AnswerRows at c (called at c)
 unfolding called wroteOf infoOf binOf unfitOf stallOf faultOf resetOf getstatusOf getstateOf queryOf answered uploadOf
-refused-holds at c =
+prepared-rows at c p =
     let s = at .session in
     every-way s (at .flash) (c .setup) (c .bytes) (c .reply) (AnswerRows at c)
     (record {
-      unfits = λ _.
-          record {
-            stalled = λ h. absurd (omega arith);
-            unfit = λ _. record { quiet = record { count = refl; flash = refl; reply = refl }; session = refl };
-            faulted = λ h. absurd (omega arith);
-            reset-asked = λ h. absurd (omega arith);
-          };
+      unfits = λ e. absurd (false≢true (sym e ∙ prepared-ready at c p));
       stalls = λ _ n.
           record {
-            stalled = λ _. stalled-row at c n;
+            stalled = λ _. stalled-row at c (no-request at c p n);
             unfit = λ h. absurd (omega arith);
             faulted = λ h. absurd (omega arith);
             reset-asked = λ h. absurd (omega arith);
@@ -123,7 +121,7 @@ refused-holds at c =
           record {
             stalled = λ h. absurd (omega arith);
             unfit = λ h. absurd (omega arith);
-            faulted = λ _. faulted-row at c q status h;
+            faulted = λ _. faulted-row at c (in-form at c p q) status h;
             reset-asked = λ h. absurd (omega arith);
           };
       programs = λ _ _ _ _. taken at c _ refl;
@@ -141,7 +139,7 @@ refused-holds at c =
             faulted = λ h. absurd (omega arith);
             reset-asked = λ _.
                 record {
-                  when = record { asked = l .asked; in-two = l .here; eight = n; number = k };
+                  when = record { asked = in-form at c p (l .asked); in-two = l .here; eight = n; number = k };
                   quiet = record { count = refl; flash = refl; reply = refl };
                   as-fresh = freshened s;
                 };
@@ -153,102 +151,44 @@ refused-holds at c =
       idles = λ _. taken at c _ refl;
     })
 
--- how many data bytes a setup asks for
-module _ (setup : List ℕ) (eight : length setup ≡ 8) where
-  kind-is : setupOf setup .kind ≡ getD setup 0 0
-  unfolding setupOf
-  kind-is = rw eight
+unfit-rows : (at : Site) (c : Call) → AnswerRows at c (leaves (unfitOf (at .session)) (at .flash) (c .reply))
+unfolding unfitOf
+unfit-rows at c =
+    record {
+      stalled = λ h. absurd (omega arith);
+      unfit = λ _. record { quiet = record { count = refl; flash = refl; reply = refl }; session = refl };
+      faulted = λ h. absurd (omega arith);
+      reset-asked = λ h. absurd (omega arith);
+    }
 
-  number-is : setupOf setup .number ≡ getD setup 1 0
-  unfolding setupOf
-  number-is = rw eight
+-- a call that the first test refuses
+unready : (at : Site) (c : Call) → ready (at .session) (length (at .flash)) (c .setup) (length (c .bytes)) (length (c .reply)) ≡ false → called at c ≡ leaves (unfitOf (at .session)) (at .flash) (c .reply)
+unfolding called stepOf
+unready at c e = rw e
 
-  length-is : setupOf setup .length ≡ wordAt setup 6
-  unfolding setupOf
-  length-is = rw eight
+pub refused-holds : Refused
+refused-holds at c = go (ready (at .session) (length (at .flash)) (c .setup) (length (c .bytes)) (length (c .reply))) refl
+  where
+    go :
+        (t : Bool) → ready (at .session) (length (at .flash)) (c .setup) (length (c .bytes)) (length (c .reply)) ≡ t
+        → AnswerRows at c (called at c)
+    go true e = prepared-rows at c (ready-prepared at c e)
+    go false e = subst⁻¹ (AnswerRows at c) (unready at c e) (unfit-rows at c)
 
-  asked : dataAsked setup ≡ cond (eqb (getD setup 0 0) 0x21 && eqb (getD setup 1 0) 1) (wordAt setup 6) 0
-  unfolding dataAsked
-  asked =
-      let by : ℕ → ℕ → ℕ → ℕ = λ k n l. cond (eqb k 0x21 && eqb n 1) l 0 in
-      ap (λ (k : ℕ). by k (setupOf setup .number) (setupOf setup .length)) kind-is
-      ∙ ap (λ (n : ℕ). by (getD setup 0 0) n (setupOf setup .length)) number-is
-      ∙ ap (λ (l : ℕ). by (getD setup 0 0) (getD setup 1 0) l) length-is
-
-  asked-dnload : SaysDnload setup → dataAsked setup ≡ wordAt setup 6
-  asked-dnload h = asked ∙ rw (h .0, h .1)
-
-  asked-other : (SaysDnload setup → ⊥) → dataAsked setup ≡ 0
-  asked-other n =
-      let kind = eqb (getD setup 0 0) 0x21 in
-      let number = eqb (getD setup 1 0) 1 in
-      asked
-      ∙ pick (λ (x : ℕ). x ≡ 0) (kind && number) _ _
-      (λ e. absurd (n (eqb-true _ _ (left-of kind number e), eqb-true _ _ (right-of kind number e)))) (λ _. refl)
-
--- whether a setup says DNLOAD
-says-or-not : (setup : List ℕ) → SaysDnload setup ⊎ (SaysDnload setup → ⊥)
-says-or-not setup =
-    elim (ℕ-discrete (getD setup 0 0) 0x21) [
-      | yes k ↦ elim (ℕ-discrete (getD setup 1 0) 1) [ yes n ↦ inl (k, n) | no n ↦ inr (λ h. n (h .1)) ]
-      | no k ↦ inr (λ h. k (h .0))
-    ]
-
--- the first test is what it says in words
 module _ (at : Site) (c : Call) where
-  pub prepared-ready :
-      Prepared at c
-      → ready (at .session) (length (at .flash)) (c .setup) (length (c .bytes)) (length (c .reply)) ≡ true
-  unfolding ready
-  prepared-ready p =
-      let asked : length (c .bytes) ≡ dataAsked (c .setup) =
-      ⊎-elim (λ h. p .dnload-data h ∙ sym (asked-dnload (c .setup) (p .setup-bytes) h))
-      (λ n. p .other-data n ∙ sym (asked-other (c .setup) (p .setup-bytes) n)) (says-or-not (c .setup))
-      in
-      rw (
-        eq-eqb (length (c .setup)) 8 (p .setup-bytes),
-        le-leb 1024 (length (c .reply)) (p .room),
-        eq-eqb (length (at .flash)) (startOf (at .session .board .b .0)) (p .flash-length),
-        eq-eqb (length (c .bytes)) (dataAsked (c .setup)) asked,
-        p .rules,
-      )
-
-  pub ready-prepared :
-      ready (at .session) (length (at .flash)) (c .setup) (length (c .bytes)) (length (c .reply)) ≡ true
-      → Prepared at c
-  unfolding ready
-  ready-prepared e =
-      let eight = eqb (length (c .setup)) 8 in
-      let roomy = leb 1024 (length (c .reply)) in
-      let sized = eqb (length (at .flash)) (startOf (at .session .board .b .0)) in
-      let loaded = eqb (length (c .bytes)) (dataAsked (c .setup)) in
-      let d = left-of (eight && roomy && sized && loaded) (fitOf (at .session)) e in
-      let l = left-of (eight && roomy && sized) loaded d in
-      let r = left-of (eight && roomy) sized l in
-      let is-eight : length (c .setup) ≡ 8 = eqb-true _ _ (left-of eight roomy r) in
-      let asked : length (c .bytes) ≡ dataAsked (c .setup) = eqb-true _ _ (right-of (eight && roomy && sized) loaded d) in
-      record {
-        setup-bytes = is-eight;
-        room = leb-true _ _ (right-of eight roomy r);
-        flash-length = eqb-true _ _ (right-of (eight && roomy) sized l);
-        dnload-data = λ h. asked ∙ asked-dnload (c .setup) is-eight h;
-        other-data = λ n. asked ∙ asked-other (c .setup) is-eight n;
-        rules = right-of (eight && roomy && sized && loaded) (fitOf (at .session)) e;
-      }
-
   unprepared-unfit : (Prepared at c → ⊥) → heard (called at c) ≡ 2
   unfolding called stepOf unfitOf
   unprepared-unfit n =
       pick (λ (l : Leaves). heard l ≡ 2)
       (ready (at .session) (length (at .flash)) (c .setup) (length (c .bytes)) (length (c .reply))) _ _
-      (λ e. absurd (n (ready-prepared e))) (λ _. refl)
+      (λ e. absurd (n (ready-prepared at c e))) (λ _. refl)
 
   prepared-served : Prepared at c → heard (called at c) ≡ 2 → ⊥
   unfolding called wroteOf infoOf binOf stallOf faultOf resetOf getstatusOf getstateOf queryOf answered uploadOf
   prepared-served p =
       every-way (at .session) (at .flash) (c .setup) (c .bytes) (c .reply) (λ (l : Leaves). heard l ≡ 2 → ⊥)
       (record {
-        unfits = λ e _. false≢true (sym e ∙ prepared-ready p);
+        unfits = λ e _. false≢true (sym e ∙ prepared-ready at c p);
         stalls = λ _ _ h. omega arith;
         faults = λ _ _ _ _ h. omega arith;
         programs = λ _ _ _ _ h. omega arith;
@@ -270,6 +210,10 @@ module _ (at : Site) (c : Call) where
 pub unfit-exactly-holds : UnfitExactly
 unfit-exactly-holds = record { unprepared = unprepared-unfit; prepared = prepared-served }
 
+-- whether the table allows what a setup is read as
+abbrev pub allowedCall : Site → Call → Bool
+allowedCall at c = allowedOf (requestOf (c .setup)) (wLength (c .setup)) (at .session .phase .state .0)
+
 -- a prepared call goes on to form and state
 pub goes-on :
     (at : Site) (c : Call) → Prepared at c
@@ -280,13 +224,10 @@ pub goes-on :
 unfolding called stepOf
 goes-on at c p = rw (prepared-ready at c p)
 
-unallowed-stalls : (at : Site) (c : Call) → Prepared at c → allowedCall at c ≡ false → heard (called at c) ≡ 1
+unallowed-stalls : (at : Site) (c : Call) → Prepared at c → NoRequest at c → heard (called at c) ≡ 1
 unfolding stallOf
-unallowed-stalls at c p n = ap heard (goes-on at c p) ∙ rw n
+unallowed-stalls at c p none = ap heard (asks-stalled at c p none)
 
 pub stalled-exactly-holds : StalledExactly
 stalled-exactly-holds =
-    record {
-      not-allowed = unallowed-stalls;
-      allowed = λ at c a h. false≢true (sym (refused-holds at c .stalled h .when) ∙ a);
-    }
+    record { not-allowed = unallowed-stalls; allowed = λ at c r n form a h. refused-holds at c .stalled h .when r n form a }

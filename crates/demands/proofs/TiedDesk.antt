@@ -22,7 +22,8 @@ use Rattle.command.specs.Download.{allErased, sumsAfter, wroteOf, progOf, erase
 use Rattle.loader.specs.Reply.{answered, entered, polled, pollTime, getstatusOf, getstateOf, queryOf}
 use Rattle.loader.specs.Step.{startable, freshStart, startOutcome, served}
 use Rattle.demands.specs.Calls.{Call, Site, called, next, after}
-use Rattle.demands.specs.Two.{Sound}
+use Rattle.demands.specs.Asked.{Prepared}
+use Rattle.demands.proofs.Asked.{prepared-from}
 use Rattle.demands.specs.Tied.{Case, Meets, Expected, All, Desk, freshSite, getStatus, eraseAll, wiped, marred, progOne, progZero, seven, close, case, deskCases}
 use Rattle.demands.proofs.Bytes.{erased-length, erased-part, not-erased, spliced-none, spliced-byte}
 use Rattle.demands.proofs.TwoLaws.{sound-served, sound-stalled, next-from}
@@ -61,8 +62,8 @@ module _ (p q : ℕ) (f buffer : List ℕ) (sized : length f ≡ startOf 64) (ro
 
   -- a call at such a session, which is sound where its own numbers are
   module _ (s : Session) (g : List ℕ) (c : Call) (b : s .board .b .0 ≡ 64) (long : length g ≡ startOf 64) (lent : c .reply ≡ buffer) (eight : length (c .setup) ≡ 8) (brought : length (c .bytes) ≡ dataAsked (c .setup)) (fit : fitOf s ≡ true) where
-    sound : Sound (site s g) c
-    sound = record { eight = eight; roomy = rw lent room; sized = rw b long; brought = brought; fit = fit }
+    sound : Prepared (site s g) c
+    sound = prepared-from (site s g) c eight (rw lent room) (rw b long) brought fit
 
     serves : allowedOf (requestOf (c .setup)) (wLength (c .setup)) (s .phase .state .0) ≡ true → called (site s g) c ≡ served (requestOf (c .setup)) s g (wLength (c .setup)) (c .bytes) (c .reply)
     serves = sound-served (site s g) c sound

@@ -27,8 +27,9 @@ use Rattle.moves.specs.Moves.{stallOf, movedTo}
 use Rattle.command.specs.Download.{sumsAfter, wroteOf}
 use Rattle.demands.specs.Calls.{Call, Site, called}
 use Rattle.demands.specs.One.{AllowedStart}
-use Rattle.demands.specs.Two.{Asks, StartsAt}
-use Rattle.demands.specs.Two.Form.{upload}
+use Rattle.demands.specs.Asked.{Asks}
+use Rattle.demands.specs.Two.{StartsAt}
+use Rattle.demands.specs.Asked.Form.{upload}
 use Rattle.demands.specs.TwoCommands.{EraseDone, BytesDone}
 use Rattle.demands.specs.Tied.{Step, Keeps, stallsAll, singleReply, doesNothing, doesNothingAt, saysTaken, allAtFirst, allAtClose, inventsCount, constantSums, constantStart, StartPromise, Impostors}
 use Rattle.demands.proofs.Bytes.{blank-byte, spliced-byte}
@@ -147,7 +148,7 @@ upload-asks : (state place : ℕ) → fitOf (placed state 0 0 0 place .session) 
 unfolding dataAsked setupOf
 upload-asks state place fit =
     record {
-      sound = small-sound (placed state 0 0 0 place .session) (blank 2048) _ _ refl (length-blank 2048) refl refl fit;
+      prepared = small-sound (placed state 0 0 0 place .session) (blank 2048) _ _ refl (length-blank 2048) refl refl fit;
       form = upload (so _ _ _ _ _) (omega arith) (omega arith);
     }
 

@@ -17,7 +17,8 @@ use Rattle.moves.specs.Answers.{done}
 use Rattle.moves.specs.Moves.{movedTo, faultOf, resetOf}
 use Rattle.command.specs.Download.{progOf, readOf, checkOf, eraseOf, infoOf, prefixFor, binOf, carriedOut, pieceOf}
 use Rattle.demands.specs.Calls.{Call, Site}
-use Rattle.demands.specs.Two.{Asks, Moves}
+use Rattle.demands.specs.Asked.{Asks}
+use Rattle.demands.specs.Two.{Moves}
 use Rattle.demands.specs.TwoCommands.{Commanded, Named, Counted, Legal, Blank, NotBlank, Chooses, NoCommand, Commands}
 use Rattle.demands.proofs.Bytes.{bytes-erased, not-erased}
 use Rattle.demands.proofs.TwoForms.{asks-brings}
@@ -50,7 +51,7 @@ module _ (at : Site) (c : Call) (block len : ℕ) (k : Commanded at c 3 8) (rang
         range .block-is,
         range .len-is,
         legal-in at block len legal,
-        bytes-erased (at .flash) block len (legal-fits at c block len (k .asks .sound) legal) blank,
+        bytes-erased (at .flash) block len (legal-fits at c block len (k .asks .prepared) legal) blank,
       ))
 
   check-range : (Legal at block len → ⊥) → Moves at c 3 [] 10 0x08
@@ -69,7 +70,7 @@ module _ (at : Site) (c : Call) (block len : ℕ) (k : Commanded at c 3 8) (rang
         range .block-is,
         range .len-is,
         legal-in at block len legal,
-        not-erased (at .flash) block len (legal-fits at c block len (k .asks .sound) legal) (some .0) (some .1) (some .2),
+        not-erased (at .flash) block len (legal-fits at c block len (k .asks .prepared) legal) (some .0) (some .1) (some .2),
       ))
 
 erase-range : (at : Site) (c : Call) (block count : ℕ) → Commanded at c 4 8 → Counted c block count → (Legal at block (startOf count) → ⊥) → Moves at c 3 [] 10 0x08
@@ -153,7 +154,7 @@ module _ (at : Site) (c : Call) (block len n : ℕ) (k : Commanded at c 1 n) whe
         range .len-is,
         legal-in at block len legal,
         le-leb (length (drop 8 (c .bytes))) len (omega (arith, first-long, few)),
-        not-erased (at .flash) block len (legal-fits at c block len (k .asks .sound) legal) (some .0) (some .1) (some .2),
+        not-erased (at .flash) block len (legal-fits at c block len (k .asks .prepared) legal) (some .0) (some .1) (some .2),
       ))
 
 pub Commands-hold : Commands

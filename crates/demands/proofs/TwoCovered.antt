@@ -1,6 +1,6 @@
 -- Every DNLOAD that is in form and allowed falls under one of the rows: state, length, number, range and flash are told apart in the
 -- order of the faults. Assumes nothing.
-use Prim.Native.Nat.{ℕ, zero, suc, _+_, _≤_, _<_}
+use Prim.Native.Nat.{ℕ, zero, suc, _+_, _≤_}
 use mathlib.Core.Logic.{_⊎_, inl, inr, ⊎-elim}
 use mathlib.Core.Path.{_≡_, refl, ap, _∙_}
 use native.Mathlib.Decide.{ℕ-discrete, decLe}
@@ -12,7 +12,7 @@ use Rattle.request.specs.Request.{wordAt}
 use Rattle.request.specs.declared.Request.{Request}
 use Rattle.command.specs.Download.{longAt}
 use Rattle.demands.specs.Calls.{Call, Site}
-use Rattle.demands.specs.Two.{stateOf, Asks}
+use Rattle.demands.specs.Asked.{stateOf, Asks}
 use Rattle.demands.specs.TwoCommands.{Commanded, Named, Counted, Legal, Blank, NotBlank, short, unknown, extra, DnloadRow, DnloadRows}
 
 -- a range is legal or not, and its bytes are all erased or one of them isn't

@@ -18,7 +18,7 @@ use Rattle.moves.specs.Moves.{faultOf}
 use Rattle.command.specs.Download.{wellFormed, carriedOut, commandOf, pieceOf, dnloadOf}
 use Rattle.loader.specs.Step.{served, withReply}
 use Rattle.demands.specs.Calls.{Call, Site, called}
-use Rattle.demands.specs.Two.{Asks}
+use Rattle.demands.specs.Asked.{Asks}
 use Rattle.demands.specs.TwoCommands.{Commanded, Legal, NoCommand}
 use Rattle.demands.specs.TwoCommands.NoCommand.{short, unknown, extra}
 use Rattle.demands.proofs.TwoForms.{asks-served, asks-brings}

@@ -19,8 +19,9 @@ use Rattle.request.specs.declared.Request.{Request}
 use Rattle.request.proofs.Laws.{form-right, form-facts, dnload-asked}
 use Rattle.loader.specs.Step.{served}
 use Rattle.demands.specs.Calls.{Call, Site, called}
-use Rattle.demands.specs.Two.{stateOf, Sound, Says, Form, Allowed, Asks, NoRequest}
-use Rattle.demands.specs.Two.Form.{dnload, upload, getstatus, clrstatus, getstate, abort, query}
+use Rattle.demands.specs.Asked.{stateOf, Prepared, Says, Form, Allowed, Asks, NoRequest}
+use Rattle.demands.specs.Asked.Form.{dnload, upload, getstatus, clrstatus, getstate, abort, query}
+use Rattle.demands.proofs.Asked.{prepared-asked}
 use Rattle.demands.proofs.TwoLaws.{sound-served, sound-stalled}
 
 module _ (setup : List ℕ) (eight : length setup ≡ 8) where
@@ -142,15 +143,15 @@ pub asks-served :
     → called at c ≡ served r (at .session) (at .flash) n (c .bytes) (c .reply)
 asks-served at c r n k a =
     let s = at .session in
-    let is = form-request (c .setup) (k .sound .eight) r n (k .form) in
-    let long = form-length (c .setup) (k .sound .eight) r n (k .form) in
-    let told = allowed-told r n (s .phase .state .0) (fit-facts s (k .sound .fit) .state) a in
-    sound-served at c (k .sound) (ap₂ (λ (x : Request) (m : ℕ). allowedOf x m (s .phase .state .0)) is long ∙ told)
+    let is = form-request (c .setup) (k .prepared .setup-bytes) r n (k .form) in
+    let long = form-length (c .setup) (k .prepared .setup-bytes) r n (k .form) in
+    let told = allowed-told r n (s .phase .state .0) (fit-facts s (k .prepared .rules) .state) a in
+    sound-served at c (k .prepared) (ap₂ (λ (x : Request) (m : ℕ). allowedOf x m (s .phase .state .0)) is long ∙ told)
     ∙ ap₂ (λ (x : Request) (m : ℕ). served x s (at .flash) m (c .bytes) (c .reply)) is long
 
 -- what no allowed request in form is leaves
 pub asks-stalled :
-    (at : Site) (c : Call) → Sound at c → NoRequest at c → called at c ≡ leaves (stallOf (at .session)) (at .flash) (c .reply)
+    (at : Site) (c : Call) → Prepared at c → NoRequest at c → called at c ≡ leaves (stallOf (at .session)) (at .flash) (c .reply)
 asks-stalled at c k none = go (requestOf (c .setup)) refl (allowedOf (requestOf (c .setup)) (wLength (c .setup)) (at .session .phase .state .0)) refl
   where
     go :
@@ -160,17 +161,25 @@ asks-stalled at c k none = go (requestOf (c .setup)) refl (allowedOf (requestOf 
     go r e false h = sound-stalled at c k h
     go r e true h =
         let told = told-allowed r (wLength (c .setup)) (at .session .phase .state .0) (rw e at h) in
-        absurd (none r (wLength (c .setup)) (request-form (c .setup) (k .eight) r e (λ z. rw z at told)) told)
+        absurd (none r (wLength (c .setup)) (request-form (c .setup) (k .setup-bytes) r e (λ z. rw z at told)) told)
 
 -- a DNLOAD brings as many bytes as it says
 pub asks-brings : (at : Site) (c : Call) (n : ℕ) → Asks at c Request.Dnload n → length (c .bytes) ≡ n
 asks-brings at c n k =
-    k .sound .brought
-    ∙ dnload-asked (c .setup) (form-request (c .setup) (k .sound .eight) Request.Dnload n (k .form))
-    ∙ form-length (c .setup) (k .sound .eight) Request.Dnload n (k .form)
+    prepared-asked at c (k .prepared)
+    ∙ dnload-asked (c .setup) (form-request (c .setup) (k .prepared .setup-bytes) Request.Dnload n (k .form))
+    ∙ form-length (c .setup) (k .prepared .setup-bytes) Request.Dnload n (k .form)
 
--- a sound call asks for an allowed request, or is refused
-pub asks-or-refused : (at : Site) (c : Call) → Sound at c → ((r : Request) × (n : ℕ) × Asks at c r n × Allowed r n (stateOf at)) ⊎ NoRequest at c
+-- a prepared call that the table does not allow is no request
+pub no-request : (at : Site) (c : Call) → Prepared at c → allowedOf (requestOf (c .setup)) (wLength (c .setup)) (stateOf at) ≡ false → NoRequest at c
+no-request at c k h x n form a =
+    let is = form-request (c .setup) (k .setup-bytes) x n form in
+    let long = form-length (c .setup) (k .setup-bytes) x n form in
+    let yes = allowed-told x n (stateOf at) (fit-facts (at .session) (k .rules) .state) a in
+    false≢true (sym h ∙ ap₂ (λ (y : Request) (m : ℕ). allowedOf y m (stateOf at)) is long ∙ yes)
+
+-- a prepared call asks for an allowed request, or for none
+pub asks-or-refused : (at : Site) (c : Call) → Prepared at c → ((r : Request) × (n : ℕ) × Asks at c r n × Allowed r n (stateOf at)) ⊎ NoRequest at c
 asks-or-refused at c k = go (requestOf (c .setup)) refl (allowedOf (requestOf (c .setup)) (wLength (c .setup)) (stateOf at)) refl
   where
     go :
@@ -178,10 +187,5 @@ asks-or-refused at c k = go (requestOf (c .setup)) refl (allowedOf (requestOf (c
         → ((r : Request) × (n : ℕ) × Asks at c r n × Allowed r n (stateOf at)) ⊎ NoRequest at c
     go r e true h =
         let told = told-allowed r (wLength (c .setup)) (stateOf at) (rw e at h) in
-        inl (r, wLength (c .setup), record { sound = k; form = request-form (c .setup) (k .eight) r e (λ z. rw z at told) }, told)
-    go r e false h =
-        inr λ x n form a.
-        let is = form-request (c .setup) (k .eight) x n form in
-        let long = form-length (c .setup) (k .eight) x n form in
-        let yes = allowed-told x n (stateOf at) (fit-facts (at .session) (k .fit) .state) a in
-        false≢true (sym h ∙ ap₂ (λ (y : Request) (m : ℕ). allowedOf y m (stateOf at)) is long ∙ yes)
+        inl (r, wLength (c .setup), record { prepared = k; form = request-form (c .setup) (k .setup-bytes) r e (λ z. rw z at told) }, told)
+    go r e false h = inr (no-request at c k h)

@@ -14,8 +14,10 @@ use Rattle.session.specs.declared.Session.{Session}
 use Rattle.request.specs.Request.{setupOf, dataAsked}
 use Rattle.request.specs.declared.Request.{Request}
 use Rattle.demands.specs.Calls.{Call, Site}
-use Rattle.demands.specs.Two.{Sound, Asks, NoRequest, StartsAt, Says, Form}
-use Rattle.demands.specs.Two.Form.{dnload, upload, getstatus, clrstatus, getstate, abort, query}
+use Rattle.demands.proofs.Asked.{prepared-from}
+use Rattle.demands.specs.Asked.{Prepared, Asks, NoRequest, Says, Form}
+use Rattle.demands.specs.Two.{StartsAt}
+use Rattle.demands.specs.Asked.Form.{dnload, upload, getstatus, clrstatus, getstate, abort, query}
 use Rattle.demands.specs.TwoCommands.{Commanded, Named, Counted, Legal, Blank, NotBlank, NoCommand}
 use Rattle.demands.specs.TwoCommands.NoCommand.{short, unknown, extra}
 use Rattle.demands.proofs.Bytes.{blank-byte, spliced-byte}
@@ -56,15 +58,9 @@ brings bytes = lent (setups 0x21 1 0 (length bytes) 0) bytes
 -- such a call is sound over any flash of two blocks, if its own numbers are
 pub small-sound :
     (s : Session) (flash setup bytes : List ℕ) → s .board .b .0 ≡ 2 → length flash ≡ 2048 → length setup ≡ 8
-    → length bytes ≡ dataAsked setup → fitOf s ≡ true → Sound (record { session = s; flash = flash }) (lent setup bytes)
+    → length bytes ≡ dataAsked setup → fitOf s ≡ true → Prepared (record { session = s; flash = flash }) (lent setup bytes)
 small-sound s flash setup bytes b sized eight brought fit =
-    record {
-      eight = eight;
-      roomy = rw (length-blank 1024) (omega arith);
-      sized = rw b sized;
-      brought = brought;
-      fit = fit;
-    }
+    prepared-from (record { session = s; flash = flash }) (lent setup bytes) eight (rw (length-blank 1024) (omega arith)) (rw b sized) brought fit
 
 module _ (state status place left : ℕ) (fit : fitOf (small state status place left .session) ≡ true) where
   met :
@@ -72,7 +68,7 @@ module _ (state status place left : ℕ) (fit : fitOf (small state status place 
       → Asks (small state status place left) (lent setup bytes) r n
   met r n setup bytes eight brought form =
       record {
-        sound = small-sound (small state status place left .session) (blank 2048) setup bytes refl (length-blank 2048) eight brought fit;
+        prepared = small-sound (small state status place left .session) (blank 2048) setup bytes refl (length-blank 2048) eight brought fit;
         form = form;
       }
 
@@ -87,7 +83,7 @@ module _ (flash bytes : List ℕ) (code : ℕ) (sized : length flash ≡ 2048) w
       record {
         asks =
             record {
-              sound = small-sound (small 2 0 0 0 .session) flash (setups 0x21 1 0 (length bytes) 0) bytes refl sized refl (sym long) refl;
+              prepared = small-sound (small 2 0 0 0 .session) flash (setups 0x21 1 0 (length bytes) 0) bytes refl sized refl (sym long) refl;
               form = dnload (rw long at (so 0x21 1 0 (length bytes) 0)) few;
             };
         some = some;
@@ -265,8 +261,8 @@ no-form Request.Query n (query s e v) = omega (arith, s .typed)
 
 -- so they are refused in states 2 and 10
 pub stalled-met :
-    Sound (small 2 0 0 0) (lent (setups 0 0 0 0 0) []) × NoRequest (small 2 0 0 0) (lent (setups 0 0 0 0 0) [])
-    × Sound (small 10 0x0F 0 0) (lent (setups 0 0 0 0 0) []) × NoRequest (small 10 0x0F 0 0) (lent (setups 0 0 0 0 0) [])
+    Prepared (small 2 0 0 0) (lent (setups 0 0 0 0 0) []) × NoRequest (small 2 0 0 0) (lent (setups 0 0 0 0 0) [])
+    × Prepared (small 10 0x0F 0 0) (lent (setups 0 0 0 0 0) []) × NoRequest (small 10 0x0F 0 0) (lent (setups 0 0 0 0 0) [])
 unfolding fitOf streamLength appEnd dataAsked setupOf
 stalled-met = (
   small-sound (small 2 0 0 0 .session) (blank 2048) (setups 0 0 0 0 0) [] refl (length-blank 2048) refl refl refl,

@@ -10,7 +10,8 @@ use Rattle.moves.specs.declared.Answer.{Answer}
 use Rattle.moves.specs.Answers.{Leaves, answerNumber, outcome, leaves}
 use Rattle.moves.specs.Moves.{movedTo, rewound}
 use Rattle.demands.specs.Calls.{Call, Site, called}
-use Rattle.demands.specs.Two.{Sound, Answers, Enters, Unchanged, Moves}
+use Rattle.demands.specs.Asked.{Prepared}
+use Rattle.demands.specs.Two.{Answers, Enters, Unchanged, Moves}
 use Rattle.demands.specs.TwoCommands.{Chooses}
 
 module _ (at : Site) (c : Call) (a : Answer) (bytes : List ℕ) (t : Session) (g : List ℕ) (e : called at c ≡ leaves (outcome a (length bytes) t) g (bytes ++ drop (length bytes) (c .reply))) where
@@ -99,8 +100,8 @@ so-chooses at c a n choice flag first len t is e =
     }
 
 -- outside state 9 an upload stands at its start
-pub at-start : (at : Site) (c : Call) → Sound at c → (at .session .phase .state .0 ≡ 9 → ⊥) → rewound (at .session .up) ≡ at .session .up
+pub at-start : (at : Site) (c : Call) → Prepared at c → (at .session .phase .state .0 ≡ 9 → ⊥) → rewound (at .session .up) ≡ at .session .up
 at-start at c k ne =
     let up = at .session .up in
     ap (λ (n : ℕ). upOf (up .choice) (up .«prefix») (up .first .0) (up .len) n)
-    (sym (fit-facts (at .session) (k .fit) .no-upload ne))
+    (sym (fit-facts (at .session) (k .rules) .no-upload ne))

@@ -20,7 +20,8 @@ use Rattle.loader.specs.Reply.{answered, entered, polled, pollTime, getstatusOf
 use Rattle.loader.specs.Upload.{placeOf, answerOf, uploadEnds, uploadingAt, uploadedOf, uploadOf}
 use Rattle.loader.specs.Step.{served, withFlash}
 use Rattle.demands.specs.Calls.{Call, Site, called}
-use Rattle.demands.specs.Two.{stateOf, Sound, Asks, NoRequest, Unchanged, Moves, Reports, StartsAt, nextBytes, Uploads, Rows}
+use Rattle.demands.specs.Asked.{stateOf, Prepared, Asks, NoRequest}
+use Rattle.demands.specs.Two.{Unchanged, Moves, Reports, StartsAt, nextBytes, Uploads, Rows}
 use Rattle.demands.proofs.TwoForms.{asks-served, asks-stalled, asks-brings, asks-or-refused}
 use Rattle.demands.proofs.TwoOutcomes.{so-answers, so-session, so-flash, so-enters, so-unchanged, so-moves}
 use Rattle.demands.proofs.TwoDownloads.{piece-leaves}
@@ -45,8 +46,8 @@ module _ (at : Site) (c : Call) (n place : ℕ) (k : Asks at c Request.Upload n)
   unfolding nextOf
   count-is =
       let s = at .session in
-      let fit = fit-facts s (k .sound .fit) in
-      next-length (s .board) (s .up) (at .flash) (omega (arith, fit .range-to, k .sound .sized, end-in-flash (s .board))) place n
+      let fit = fit-facts s (k .prepared .rules) in
+      next-length (s .board) (s .up) (at .flash) (omega (arith, fit .range-to, k .prepared .flash-length, end-in-flash (s .board))) place n
 
   place-is : StartsAt at place → placeOf (at .session) ≡ place
   unfolding placeOf
@@ -142,11 +143,11 @@ module _ (at : Site) (c : Call) where
   unfolding served queryOf answered
   queried k = so-unchanged at c Answer.Taken (0x4D ∷ 0x4C ∷ 0x01 ∷ 0x20 ∷ []) (asks-served at c Request.Query 4 k tt)
 
-  stalls : Sound at c → NoRequest at c → (stateOf at ≡ 10 → ⊥) → Moves at c 1 [] 10 0x0F
+  stalls : Prepared at c → NoRequest at c → (stateOf at ≡ 10 → ⊥) → Moves at c 1 [] 10 0x0F
   unfolding stallOf
   stalls k none n = so-moves at c Answer.Stalled [] 10 0x0F (asks-stalled at c k none ∙ rw (ne-eqb (stateOf at) 10 n))
 
-  stalls-in-error : Sound at c → NoRequest at c → stateOf at ≡ 10 → Unchanged at c 1 []
+  stalls-in-error : Prepared at c → NoRequest at c → stateOf at ≡ 10 → Unchanged at c 1 []
   unfolding stallOf
   stalls-in-error k none e = so-unchanged at c Answer.Stalled [] (asks-stalled at c k none ∙ rw (eq-eqb (stateOf at) 10 e))
 

@@ -23,7 +23,7 @@ use Rattle.moves.specs.Moves.{movedTo, toSync, takenOf}
 use Rattle.command.specs.Download.{sumsAfter, wroteOf, progOf, eraseOf, carriedOut, pieceOf}
 use Rattle.loader.specs.Step.{withReply}
 use Rattle.demands.specs.Calls.{Call, Site, called}
-use Rattle.demands.specs.Two.{Sound, Asks}
+use Rattle.demands.specs.Asked.{Prepared, Asks}
 use Rattle.demands.specs.TwoCommands.{Commanded, Named, Counted, Legal, Blank, EraseDone, EraseWorks, BytesDone, ProgramWorks}
 use Rattle.demands.proofs.Bytes.{spliced-byte, erased-length, erased-byte, erased-other, bytes-erased}
 use Rattle.demands.proofs.TwoForms.{asks-brings}
@@ -31,8 +31,8 @@ use Rattle.demands.proofs.TwoOutcomes.{so-answers, so-session, so-flash
 use Rattle.demands.proofs.TwoDownloads.{legal-in, command-leaves, piece-leaves}
 
 -- a legal range lies in flash
-pub legal-fits : (at : Site) (c : Call) (block len : ℕ) → Sound at c → Legal at block len → startOf block + len ≤ length (at .flash)
-legal-fits at c block len k l = omega (arith, l .to, end-in-flash (at .session .board), k .sized)
+pub legal-fits : (at : Site) (c : Call) (block len : ℕ) → Prepared at c → Legal at block len → startOf block + len ≤ length (at .flash)
+legal-fits at c block len k l = omega (arith, l .to, end-in-flash (at .session .board), k .flash-length)
 
 module _ (at : Site) (c : Call) (block count : ℕ) (k : Commanded at c 4 8) (range : Counted c block count) (legal : Legal at block (startOf count)) where
   erase-sums : Sums
@@ -51,14 +51,14 @@ module _ (at : Site) (c : Call) (block count : ℕ) (k : Commanded at c 4 8) (ra
       let f = at .flash in
       let t = toSync (withSums (at .session) erase-sums) idle noDownload in
       let g = erased f block count in
-      let fits = legal-fits at c block (startOf count) (k .asks .sound) legal in
+      let fits = legal-fits at c block (startOf count) (k .asks .prepared) legal in
       let session = so-session at c Answer.Taken [] t g erase-leaves in
       let flash = so-flash at c Answer.Taken [] t g erase-leaves in
       record {
         answers = so-answers at c Answer.Taken [] t g erase-leaves;
         enters = so-enters at c Answer.Taken [] t g erase-leaves refl;
         no-download = ap (λ (x : Session). x .down) session;
-        upload-kept = ap (λ (x : Session). x .up) session ∙ at-start at c (k .asks .sound) (λ e. omega (arith, e, k .idle));
+        upload-kept = ap (λ (x : Session). x .up) session ∙ at-start at c (k .asks .prepared) (λ e. omega (arith, e, k .idle));
         flash =
             record {
               as-long = ap length flash ∙ erased-length f block count fits;
@@ -74,7 +74,7 @@ pub EraseWorks-holds : EraseWorks
 EraseWorks-holds = erase-done
 
 -- what a write leaves, where the bytes lie in flash
-module _ (at : Site) (c : Call) (place len : ℕ) (bytes : List ℕ) (k : Sound at c) (ne : at .session .phase .state .0 ≡ 9 → ⊥) (fits : place + length bytes ≤ length (at .flash)) where
+module _ (at : Site) (c : Call) (place len : ℕ) (bytes : List ℕ) (k : Prepared at c) (ne : at .session .phase .state .0 ≡ 9 → ⊥) (fits : place + length bytes ≤ length (at .flash)) where
   written : Session
   written =
       toSync
@@ -108,8 +108,8 @@ module _ (at : Site) (c : Call) (block len n : ℕ) (k : Commanded at c 1 n) (lo
   prog-done : BytesDone at c (startOf block) len (drop 8 (c .bytes))
   unfolding carriedOut progOf
   prog-done =
-      let fits = legal-fits at c block len (k .asks .sound) legal in
-      write-done at c (startOf block) len (drop 8 (c .bytes)) (k .asks .sound) (λ e. omega (arith, e, k .idle)) (omega (arith, first-few, fits))
+      let fits = legal-fits at c block len (k .asks .prepared) legal in
+      write-done at c (startOf block) len (drop 8 (c .bytes)) (k .asks .prepared) (λ e. omega (arith, e, k .idle)) (omega (arith, first-few, fits))
       (command-leaves at c 1 n k long (omega arith) (omega arith) (inl refl)
       ∙ rw (
         range .block-is,
@@ -139,11 +139,11 @@ module _ (at : Site) (c : Call) (n : ℕ) (k : Asks at c Request.Dnload n) (load
   piece-fits =
       let s = at .session in
       let runs : running (s .phase) ≡ true = rw loading in
-      omega (arith, fit-facts s (k .sound .fit) .left-to runs, end-in-flash (s .board), few, asks-brings at c n k, k .sound .sized)
+      omega (arith, fit-facts s (k .prepared .rules) .left-to runs, end-in-flash (s .board), few, asks-brings at c n k, k .prepared .flash-length)
 
   piece-done : BytesDone at c (at .session .down .place .0) (at .session .down .left) (c .bytes)
   piece-done =
-      write-done at c (at .session .down .place .0) (at .session .down .left) (c .bytes) (k .sound)
+      write-done at c (at .session .down .place .0) (at .session .down .left) (c .bytes) (k .prepared)
       (λ e. omega (arith, e, loading))
       piece-fits
       written-leaves

@@ -1,5 +1,6 @@
 -- What the user is promised: the statements.
 pub mod Calls
+pub mod Asked
 pub mod One
 pub mod Three
 pub mod Two

@@ -1,6 +1,6 @@
 -- Demand 1: no call touches flash that it must not, a refused call leaves what the paper says, and a fit session stays fit.
 use Prim.Native.Nat.{ℕ, _-_, _≤_, _<_}
-use mathlib.Core.Bool.{Bool, true, false}
+use mathlib.Core.Bool.{true}
 use mathlib.Core.List.{List}
 use mathlib.Core.Logic.{_⊎_}
 use mathlib.Core.Path.{_≡_}
@@ -11,12 +11,12 @@ use Rattle.session.specs.Session.{appEnd, zerosOf}
 use Rattle.session.specs.Rules.{fitOf}
 use Rattle.session.specs.declared.Board.{Board}
 use Rattle.session.specs.declared.Session.{Session}
-use Rattle.request.specs.Request.{wordAt, wLength, requestOf, allowedOf}
 use Rattle.request.specs.declared.Request.{Request}
 use Rattle.moves.specs.declared.Outcome.{Outcome}
 use Rattle.moves.specs.Answers.{Leaves, answerNumber}
 use Rattle.loader.specs.Step.{startOutcome}
 use Rattle.demands.specs.Calls.{Call, Site, called, next}
+use Rattle.demands.specs.Asked.{stateOf, Prepared, Form, Allowed, NoRequest}
 
 -- an address in no application block: below block A's first byte, or from the application's end on
 abbrev pub OutsideApp : Board → ℕ → Type 0
@@ -66,13 +66,9 @@ InError s t status = Settled s t 10 status (s .up .choice) (s .up .«prefix») (
 abbrev pub AsFresh : Session → Session → Type 0
 AsFresh s t = Settled s t 2 0 0 1 (s .board .a .0) (startOf (appEnd (s .board) - s .board .a .0))
 
--- whether the setup has the form of a request that the session's state allows; a setup of no form is allowed in none
-abbrev pub allowedCall : Site → Call → Bool
-allowedCall at c = allowedOf (requestOf (c .setup)) (wLength (c .setup)) (at .session .phase .state .0)
-
 -- row 1, stalled: wrong form, or not allowed in this state; state 10, status 0x0F; in state 10 nothing changes
 pub record Stalled (at : Site) (c : Call) (l : Leaves) : Type 0 where
-  pub when : allowedCall at c ≡ false
+  pub when : NoRequest at c
   pub quiet : Quiet at c l
   pub in-ten : at .session .phase .state .0 ≡ 10 → l .outcome .session ≡ at .session
   pub elsewhere : (at .session .phase .state .0 ≡ 10 → ⊥) → InError (at .session) (l .outcome .session) 0x0F
@@ -91,14 +87,14 @@ pub data FaultStatus (n : ℕ) : Type 0 where
 
 -- row 3, faulted: a download; state 10, with a status of a fault
 pub record Faulted (at : Site) (c : Call) (l : Leaves) : Type 0 where
-  pub when : requestOf (c .setup) ≡ Request.Dnload
+  pub when : (n : ℕ) × Form (c .setup) n Request.Dnload
   pub quiet : Quiet at c l
   pub status : FaultStatus (l .outcome .session .phase .status .0)
   pub in-error : InError (at .session) (l .outcome .session) (l .outcome .session .phase .status .0)
 
 -- a DNLOAD in state 2 of the eight bytes of RESET, number 7
 pub record ResetCommand (at : Site) (c : Call) : Type 0 where
-  pub asked : requestOf (c .setup) ≡ Request.Dnload
+  pub asked : (n : ℕ) × Form (c .setup) n Request.Dnload
   pub in-two : at .session .phase .state .0 ≡ 2
   pub eight : length (c .bytes) ≡ 8
   pub number : getD (c .bytes) 0 0 ≡ 7
@@ -120,29 +116,17 @@ pub record AnswerRows (at : Site) (c : Call) (l : Leaves) : Type 0 where
 abbrev pub Refused : Type 0
 Refused = (at : Site) (c : Call) → AnswerRows at c (called at c)
 
--- type 0x21 and number 1, whatever the rest of the setup holds
-abbrev pub SaysDnload : List ℕ → Type 0
-SaysDnload setup = (getD setup 0 0 ≡ 0x21) × (getD setup 1 0 ≡ 1)
-
--- a call that is prepared: 8 setup bytes, room for 1,024 reply bytes, B × 1,024 bytes of flash, wLength data bytes for DNLOAD and
--- none otherwise, a session that keeps its rules
-pub record Prepared (at : Site) (c : Call) : Type 0 where
-  pub setup-bytes : length (c .setup) ≡ 8
-  pub room : 1024 ≤ length (c .reply)
-  pub flash-length : length (at .flash) ≡ startOf (at .session .board .b .0)
-  pub dnload-data : SaysDnload (c .setup) → length (c .bytes) ≡ wordAt (c .setup) 6
-  pub other-data : (SaysDnload (c .setup) → ⊥) → length (c .bytes) ≡ 0
-  pub rules : fitOf (at .session) ≡ true
-
 -- UnfitExactly: a call that is not so prepared is answered unfit, and no other
 pub record UnfitExactly : Type 0 where
   pub unprepared : (at : Site) (c : Call) → (Prepared at c → ⊥) → heard (called at c) ≡ 2
   pub prepared : (at : Site) (c : Call) → Prepared at c → heard (called at c) ≡ 2 → ⊥
 
--- StalledExactly: of the prepared calls those are stalled that are not allowed, and no other call is
+-- StalledExactly: of the prepared calls those are stalled that are no request in form which the state allows, and no other call is
 pub record StalledExactly : Type 0 where
-  pub not-allowed : (at : Site) (c : Call) → Prepared at c → allowedCall at c ≡ false → heard (called at c) ≡ 1
-  pub allowed : (at : Site) (c : Call) → allowedCall at c ≡ true → heard (called at c) ≡ 1 → ⊥
+  pub not-allowed : (at : Site) (c : Call) → Prepared at c → NoRequest at c → heard (called at c) ≡ 1
+  pub allowed :
+      (at : Site) (c : Call) (r : Request) (n : ℕ) → Form (c .setup) n r → Allowed r n (stateOf at)
+      → heard (called at c) ≡ 1 → ⊥
 
 -- StaysFit: a fit session is handed back fit, whatever the call
 abbrev pub StaysFit : Type 0

@@ -1,76 +1,24 @@
 -- Demand 2, but for reading back: what is asked for in form and in a state that allows it is done, and anything else is stalled.
 use Prim.Native.Nat.{ℕ, _+_, _-_, _*_, _≤_, _<_, min}
-use mathlib.Core.Bool.{true}
 use mathlib.Core.List.{List, [], _∷_, _++_}
 use mathlib.Core.Logic.{_⊎_}
 use mathlib.Core.Path.{_≡_}
-use lib.ListN.{length, getD, take, drop, replicate}
-use Rattle.flash.specs.Flash.{startOf}
+use lib.ListN.{length, take, drop, replicate}
 use Rattle.sums.specs.Sum.{mostBlocks, Right}
 use Rattle.session.specs.Session.{boardOf, appEnd, phaseOf, downOf, upOf, streamLength}
-use Rattle.session.specs.Rules.{fitOf}
 use Rattle.session.specs.declared.Session.{Session}
-use Rattle.request.specs.Request.{wordAt, dataAsked}
 use Rattle.request.specs.declared.Request.{Request}
 use Rattle.stream.specs.Stream.{streamOf}
 use Rattle.moves.specs.declared.Outcome.{Outcome}
 use Rattle.moves.specs.Answers.{answerNumber}
 use Rattle.loader.specs.Step.{startOutcome}
 use Rattle.demands.specs.Calls.{Call, Site, called}
+use Rattle.demands.specs.Asked.{stateOf, Prepared, Allowed, Asks, NoRequest}
 use Rattle.demands.specs.One.{AllowedStart}
 
--- the state that a site is in, and the session that a call hands back
-abbrev pub stateOf : Site → ℕ
-stateOf at = at .session .phase .state .0
-
+-- the session that a call hands back
 abbrev pub handed : Site → Call → Session
 handed at c = called at c .outcome .session
-
--- a call that isn't unfit: 8 setup bytes, a reply room of 1,024, the flash's length, as many data bytes as the setup speaks of for
--- DNLOAD and none otherwise, a session that keeps its rules
-pub record Sound (at : Site) (c : Call) : Type 0 where
-  pub eight : length (c .setup) ≡ 8
-  pub roomy : 1024 ≤ length (c .reply)
-  pub sized : length (at .flash) ≡ startOf (at .session .board .b .0)
-  pub brought : length (c .bytes) ≡ dataAsked (c .setup)
-  pub fit : fitOf (at .session) ≡ true
-
--- what setup bytes say: type, number, wIndex 0, and n for wLength; wValue is left open
-pub record Says (setup : List ℕ) (type number n : ℕ) : Type 0 where
-  pub typed : getD setup 0 0 ≡ type
-  pub numbered : getD setup 1 0 ≡ number
-  pub no-index : wordAt setup 4 ≡ 0
-  pub long : wordAt setup 6 ≡ n
-
--- the form table: each request by type, number and wLength, the query also by wValue
-pub data Form (setup : List ℕ) (n : ℕ) : Request → Type 0 where
-  dnload : Says setup 0x21 1 n → n ≤ 1024 → Form setup n Request.Dnload
-  upload : Says setup 0xA1 2 n → 1 ≤ n → n ≤ 1024 → Form setup n Request.Upload
-  getstatus : Says setup 0xA1 3 n → n ≡ 6 → Form setup n Request.GetStatus
-  clrstatus : Says setup 0x21 4 n → n ≡ 0 → Form setup n Request.ClrStatus
-  getstate : Says setup 0xA1 5 n → n ≡ 1 → Form setup n Request.GetState
-  abort : Says setup 0x21 6 n → n ≡ 0 → Form setup n Request.Abort
-  query : Says setup 0xA1 0x42 n → n ≡ 4 → wordAt setup 2 ≡ 0x23 → Form setup n Request.Query
-
--- its last column: the states that allow a request of n bytes
-abbrev pub Allowed : Request → ℕ → ℕ → Type 0
-Allowed Request.Dnload n state = ((state ≡ 2) × (0 < n)) ⊎ (state ≡ 5)
-Allowed Request.Upload n state = (state ≡ 2) ⊎ (state ≡ 9)
-Allowed Request.GetStatus n state = Unit
-Allowed Request.ClrStatus n state = state ≡ 10
-Allowed Request.GetState n state = Unit
-Allowed Request.Abort n state = state ≡ 10 → ⊥
-Allowed Request.Query n state = Unit
-Allowed Request.Nothing n state = ⊥
-
--- a sound call that is a request in form
-pub record Asks (at : Site) (c : Call) (r : Request) (n : ℕ) : Type 0 where
-  pub sound : Sound at c
-  pub form : Form (c .setup) n r
-
--- a call that is no request in form which the state allows
-abbrev pub NoRequest : Site → Call → Type 0
-NoRequest at c = (r : Request) (n : ℕ) → Form (c .setup) n r → Allowed r n (stateOf at) → ⊥
 
 -- what the host hears: the answer's number, and so many bytes at the front of the reply, the rest of it untouched
 pub record Answers (at : Site) (c : Call) (number : ℕ) (bytes : List ℕ) : Type 0 where
@@ -160,10 +108,10 @@ pub record RowsAt (at : Site) (c : Call) : Type 0 where
   -- the query answers four bytes and changes nothing
   pub query : Asks at c Request.Query 4 → Unchanged at c 0 (0x4D ∷ 0x4C ∷ 0x01 ∷ 0x20 ∷ [])
   -- everything else is stalled: to state 10 with status 0x0F; in state 10 nothing changes
-  pub stalled : Sound at c → NoRequest at c → (stateOf at ≡ 10 → ⊥) → Moves at c 1 [] 10 0x0F
-  pub stalled-in-error : Sound at c → NoRequest at c → stateOf at ≡ 10 → Unchanged at c 1 []
+  pub stalled : Prepared at c → NoRequest at c → (stateOf at ≡ 10 → ⊥) → Moves at c 1 [] 10 0x0F
+  pub stalled-in-error : Prepared at c → NoRequest at c → stateOf at ≡ 10 → Unchanged at c 1 []
   -- and there is nothing else: a call that isn't unfit is a request in form and allowed, or is refused
-  pub either : Sound at c → ((r : Request) × (n : ℕ) × Asks at c r n × Allowed r n (stateOf at)) ⊎ NoRequest at c
+  pub either : Prepared at c → ((r : Request) × (n : ℕ) × Asks at c r n × Allowed r n (stateOf at)) ⊎ NoRequest at c
 
 abbrev pub Rows : Type 0
 Rows = (at : Site) (c : Call) → RowsAt at c

@@ -10,7 +10,8 @@ use Rattle.request.specs.Request.{wordAt}
 use Rattle.request.specs.declared.Request.{Request}
 use Rattle.command.specs.Download.{longAt}
 use Rattle.demands.specs.Calls.{Call, Site, called}
-use Rattle.demands.specs.Two.{stateOf, handed, Allowed, Asks, Answers, Enters, Moves}
+use Rattle.demands.specs.Asked.{stateOf, Allowed, Asks}
+use Rattle.demands.specs.Two.{handed, Answers, Enters, Moves}
 
 -- a DNLOAD of n bytes in state 2: its first byte is the command's number
 pub record Commanded (at : Site) (c : Call) (code n : ℕ) : Type 0 where

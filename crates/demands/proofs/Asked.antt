@@ -1,0 +1,108 @@
+-- A call is prepared just where the step's first test says so, and brings as many bytes as its setup asks for. Assumes nothing.
+use Prim.Native.Nat.{ℕ, _≤_}
+use mathlib.Core.Bool.{true, cond, _&&_}
+use mathlib.Core.List.{List}
+use mathlib.Core.Logic.{_⊎_, inl, inr, ⊎-elim}
+use mathlib.Core.Path.{_≡_, refl, sym, ap, _∙_}
+use native.Mathlib.Decide.{ℕ-discrete}
+use borrow.Author.Tests.{eqb-true, eq-eqb, leb-true, le-leb}
+use lib.Dec.{eqb, leb}
+use lib.ListN.{length, getD}
+use Rattle.flash.specs.Flash.{startOf}
+use Rattle.session.specs.Rules.{fitOf}
+use Rattle.session.proofs.Tests.{left-of, right-of}
+use Rattle.request.specs.Request.{wordAt, setupOf, dataAsked}
+use Rattle.loader.specs.Step.{ready}
+use Rattle.demands.specs.Calls.{Call, Site}
+use Rattle.demands.specs.Asked.{SaysDnload, Prepared}
+use Rattle.demands.proofs.Ways.{pick}
+
+-- how many data bytes a setup asks for
+module _ (setup : List ℕ) (eight : length setup ≡ 8) where
+  kind-is : setupOf setup .kind ≡ getD setup 0 0
+  unfolding setupOf
+  kind-is = rw eight
+
+  number-is : setupOf setup .number ≡ getD setup 1 0
+  unfolding setupOf
+  number-is = rw eight
+
+  length-is : setupOf setup .length ≡ wordAt setup 6
+  unfolding setupOf
+  length-is = rw eight
+
+  asked : dataAsked setup ≡ cond (eqb (getD setup 0 0) 0x21 && eqb (getD setup 1 0) 1) (wordAt setup 6) 0
+  unfolding dataAsked
+  asked =
+      let by : ℕ → ℕ → ℕ → ℕ = λ k n l. cond (eqb k 0x21 && eqb n 1) l 0 in
+      ap (λ (k : ℕ). by k (setupOf setup .number) (setupOf setup .length)) kind-is
+      ∙ ap (λ (n : ℕ). by (getD setup 0 0) n (setupOf setup .length)) number-is
+      ∙ ap (λ (l : ℕ). by (getD setup 0 0) (getD setup 1 0) l) length-is
+
+  asked-dnload : SaysDnload setup → dataAsked setup ≡ wordAt setup 6
+  asked-dnload h = asked ∙ rw (h .0, h .1)
+
+  asked-other : (SaysDnload setup → ⊥) → dataAsked setup ≡ 0
+  asked-other n =
+      let kind = eqb (getD setup 0 0) 0x21 in
+      let number = eqb (getD setup 1 0) 1 in
+      asked
+      ∙ pick (λ (x : ℕ). x ≡ 0) (kind && number) _ _
+      (λ e. absurd (n (eqb-true _ _ (left-of kind number e), eqb-true _ _ (right-of kind number e)))) (λ _. refl)
+
+-- whether a setup says DNLOAD
+says-or-not : (setup : List ℕ) → SaysDnload setup ⊎ (SaysDnload setup → ⊥)
+says-or-not setup =
+    elim (ℕ-discrete (getD setup 0 0) 0x21) [
+      | yes k ↦ elim (ℕ-discrete (getD setup 1 0) 1) [ yes n ↦ inl (k, n) | no n ↦ inr (λ h. n (h .1)) ]
+      | no k ↦ inr (λ h. k (h .0))
+    ]
+
+module _ (at : Site) (c : Call) where
+  pub prepared-from :
+      length (c .setup) ≡ 8 → 1024 ≤ length (c .reply) → length (at .flash) ≡ startOf (at .session .board .b .0)
+      → length (c .bytes) ≡ dataAsked (c .setup) → fitOf (at .session) ≡ true → Prepared at c
+  prepared-from eight room sized brought fit =
+      record {
+        setup-bytes = eight;
+        room = room;
+        flash-length = sized;
+        dnload-data = λ h. brought ∙ asked-dnload (c .setup) eight h;
+        other-data = λ n. brought ∙ asked-other (c .setup) eight n;
+        rules = fit;
+      }
+
+  pub prepared-asked : Prepared at c → length (c .bytes) ≡ dataAsked (c .setup)
+  prepared-asked p =
+      ⊎-elim (λ h. p .dnload-data h ∙ sym (asked-dnload (c .setup) (p .setup-bytes) h))
+      (λ n. p .other-data n ∙ sym (asked-other (c .setup) (p .setup-bytes) n)) (says-or-not (c .setup))
+
+  -- the first test is what it says in words
+  pub prepared-ready :
+      Prepared at c
+      → ready (at .session) (length (at .flash)) (c .setup) (length (c .bytes)) (length (c .reply)) ≡ true
+  unfolding ready
+  prepared-ready p =
+      rw (
+        eq-eqb (length (c .setup)) 8 (p .setup-bytes),
+        le-leb 1024 (length (c .reply)) (p .room),
+        eq-eqb (length (at .flash)) (startOf (at .session .board .b .0)) (p .flash-length),
+        eq-eqb (length (c .bytes)) (dataAsked (c .setup)) (prepared-asked p),
+        p .rules,
+      )
+
+  pub ready-prepared :
+      ready (at .session) (length (at .flash)) (c .setup) (length (c .bytes)) (length (c .reply)) ≡ true
+      → Prepared at c
+  unfolding ready
+  ready-prepared e =
+      let eight = eqb (length (c .setup)) 8 in
+      let roomy = leb 1024 (length (c .reply)) in
+      let sized = eqb (length (at .flash)) (startOf (at .session .board .b .0)) in
+      let loaded = eqb (length (c .bytes)) (dataAsked (c .setup)) in
+      let d = left-of (eight && roomy && sized && loaded) (fitOf (at .session)) e in
+      let l = left-of (eight && roomy && sized) loaded d in
+      let r = left-of (eight && roomy) sized l in
+      prepared-from (eqb-true _ _ (left-of eight roomy r)) (leb-true _ _ (right-of eight roomy r))
+      (eqb-true _ _ (right-of (eight && roomy) sized l)) (eqb-true _ _ (right-of (eight && roomy && sized) loaded d))
+      (right-of (eight && roomy && sized && loaded) (fitOf (at .session)) e)
