@@ -2,10 +2,10 @@
 -- Assumes nothing.
 use Prim.Native.Nat.{ℕ, _+_, _≤_}
 use mathlib.Core.Bool.{true, false}
-use mathlib.Core.List.{List, [], _∷_}
+use mathlib.Core.List.{List, [], _∷_, _++_}
 use mathlib.Core.Path.{_≡_, refl, sym, ap, subst, _∙_}
 use native.Mathlib.Omega.{arith}
-use lib.ListN.{length, getD}
+use lib.ListN.{length, getD, drop}
 use borrow.Author.Tests.{eq-eqb}
 use Rattle.flash.specs.Flash.{startOf, blank}
 use Rattle.flash.proofs.Laws.{length-blank, spliced-length}
@@ -16,7 +16,7 @@ use Rattle.session.specs.Rules.{fitOf}
 use Rattle.session.specs.declared.Session.{Session}
 use Rattle.request.specs.Request.{setupOf, formOf, requestOf, wLength, dataAsked, allowedOf}
 use Rattle.moves.specs.declared.Answer.{Answer}
-use Rattle.moves.specs.Answers.{Leaves, outcome, leaves}
+use Rattle.moves.specs.Answers.{Leaves, outcome, leaves, answerNumber}
 use Rattle.moves.specs.Moves.{movedTo, stallOf, faultOf}
 use Rattle.command.specs.Download.{allErased, sumsAfter, wroteOf, progOf, eraseOf, wellFormed, carriedOut, commandOf, closedOf, pieceOf, dnloadOf}
 use Rattle.loader.specs.Reply.{answered, entered, polled, pollTime, getstatusOf, getstateOf, queryOf}
@@ -27,10 +27,6 @@ use Rattle.demands.proofs.Asked.{prepared-from}
 use Rattle.demands.specs.Tied.{Case, Meets, Expected, All, Desk, freshSite, getStatus, eraseAll, wiped, marred, progOne, progZero, seven, close, case, deskCases}
 use Rattle.demands.proofs.Bytes.{erased-length, erased-part, not-erased, spliced-none, spliced-byte}
 use Rattle.demands.proofs.TwoLaws.{sound-served, sound-stalled, next-from}
-
--- an example from where its calls lead and from what its own call leaves there
-shown : (c : Case) (at : Site) (left : Leaves) → after (c .at) (c .before) ≡ at → called at (c .call) ≡ left → Meets left c → Expected c
-shown c at left e h m = subst (λ (l : Leaves). Meets l c) (sym (ap (λ (x : Site). called x (c .call)) e ∙ h)) m
 
 -- no call, and one call more
 ended : (at : Site) → after at [] ≡ at
@@ -186,151 +182,52 @@ module _ (p q : ℕ) (f buffer : List ℕ) (sized : length f ≡ startOf 64) (ro
   abbrev nth : ℕ → Case
   nth n = getD (deskCases p q f buffer) n (case p q f [] (close buffer) 0 0 0 [] [])
 
-  example-1 : Expected (nth 0)
-  unfolding fitOf streamLength appEnd dataAsked setupOf formOf allowedOf served getstateOf answered
-  example-1 =
-      shown (nth 0) _ _ at-start
-      (serves (held 2 0 2 0 0 sums0) f (nth 0 .call) refl sized refl refl refl refl refl)
-      (record { answer = refl; count = refl; state = refl; status = refl; reply = refl; flash = refl })
+  -- what an example expects, one by one
+  example :
+      (n : ℕ) (at : Site) (left : Leaves) → after (nth n .at) (nth n .before) ≡ at → called at (nth n .call) ≡ left
+      → answerNumber (left .outcome .answer) ≡ nth n .answer → left .outcome .count ≡ length (nth n .reply)
+      → left .outcome .session .phase .state .0 ≡ nth n .state → left .outcome .session .phase .status .0 ≡ nth n .status
+      → left .reply ≡ nth n .reply ++ drop (length (nth n .reply)) (nth n .call .reply) → left .flash ≡ nth n .flash
+      → Expected (nth n)
+  example n at left e h answer count state status reply flash =
+      subst (λ (l : Leaves). Meets l (nth n)) (sym (ap (λ (x : Site). called x (nth n .call)) e ∙ h))
+      (record { answer = answer; count = count; state = state; status = status; reply = reply; flash = flash })
 
-  example-2 : Expected (nth 1)
-  unfolding fitOf streamLength appEnd dataAsked setupOf formOf allowedOf served queryOf answered
-  example-2 =
-      shown (nth 1) _ _ at-start
-      (serves (held 2 0 2 0 0 sums0) f (nth 1 .call) refl sized refl refl refl refl refl)
-      (record { answer = refl; count = refl; state = refl; status = refl; reply = refl; flash = refl })
-
-  example-3-taken : Expected (nth 2)
-  unfolding fitOf streamLength appEnd dataAsked setupOf formOf allowedOf served dnloadOf commandOf wellFormed carriedOut eraseOf movedTo
-  example-3-taken =
-      shown (nth 2) _ _ at-start
-      (serves (held 2 0 2 0 0 sums0) f (nth 2 .call) refl sized refl refl refl refl refl)
-      (record { answer = refl; count = refl; state = refl; status = refl; reply = refl; flash = refl })
-
-  example-3-faulted : Expected (nth 3)
-  unfolding fitOf streamLength appEnd dataAsked setupOf formOf allowedOf served dnloadOf commandOf wellFormed carriedOut eraseOf faultOf movedTo
-  example-3-faulted =
-      shown (nth 3) _ _ at-start
-      (serves (held 2 0 2 0 0 sums0) f (nth 3 .call) refl sized refl refl refl refl refl)
-      (record { answer = refl; count = refl; state = refl; status = refl; reply = refl; flash = refl })
-
-  example-4 : Expected (nth 4)
-  unfolding fitOf streamLength appEnd dataAsked setupOf formOf allowedOf served dnloadOf commandOf wellFormed carriedOut eraseOf faultOf movedTo
-  example-4 =
-      shown (nth 4) _ _ at-start
-      (serves (held 2 0 2 0 0 sums0) f (nth 4 .call) refl sized refl refl refl refl refl)
-      (record { answer = refl; count = refl; state = refl; status = refl; reply = refl; flash = refl })
-
-  example-5-taken : Expected (nth 5)
-  unfolding fitOf streamLength appEnd dataAsked setupOf formOf allowedOf served dnloadOf commandOf wellFormed carriedOut progOf wroteOf movedTo
-  example-5-taken =
-      shown (nth 5) _ (leaves (outcome Answer.Taken 0 (held 3 0 5 64512 1024 (sumsAfter (boardOf 16 64 p q) sums1 w (startOf 63) 0))) w buffer) at-erased
-      (serves (held 2 0 2 0 0 sums1) w (nth 5 .call) refl w-long refl refl refl refl refl ∙ rw (w-erased 63 1024 (omega arith) (omega arith), spliced-none w (startOf 63)))
-      (record { answer = refl; count = refl; state = refl; status = refl; reply = refl; flash = refl })
-
-  example-5-faulted : Expected (nth 6)
-  unfolding fitOf streamLength appEnd dataAsked setupOf formOf allowedOf served dnloadOf commandOf wellFormed carriedOut progOf faultOf movedTo
-  example-5-faulted =
-      shown (nth 6) _ _ at-erased
-      (serves (held 2 0 2 0 0 sums1) w (nth 6 .call) refl w-long refl refl refl refl refl)
-      (record { answer = refl; count = refl; state = refl; status = refl; reply = refl; flash = refl })
-
-  example-6-none : Expected (nth 7)
-  unfolding fitOf streamLength appEnd dataAsked setupOf formOf allowedOf served dnloadOf commandOf wellFormed carriedOut progOf faultOf movedTo
-  example-6-none =
-      shown (nth 7) _ _ at-start
-      (serves (held 2 0 2 0 0 sums0) f (nth 7 .call) refl sized refl refl refl refl refl)
-      (record { answer = refl; count = refl; state = refl; status = refl; reply = refl; flash = refl })
-
-  example-6-huge : Expected (nth 8)
-  unfolding fitOf streamLength appEnd dataAsked setupOf formOf allowedOf served dnloadOf commandOf wellFormed carriedOut progOf faultOf movedTo
-  example-6-huge =
-      shown (nth 8) _ _ at-start
-      (serves (held 2 0 2 0 0 sums0) f (nth 8 .call) refl sized refl refl refl refl refl)
-      (record { answer = refl; count = refl; state = refl; status = refl; reply = refl; flash = refl })
-
-  example-7-faulted : Expected (nth 9)
-  unfolding fitOf streamLength appEnd dataAsked setupOf formOf allowedOf served dnloadOf commandOf wellFormed carriedOut faultOf movedTo
-  example-7-faulted =
-      shown (nth 9) _ _ at-start
-      (serves (held 2 0 2 0 0 sums0) f (nth 9 .call) refl sized refl refl refl refl refl)
-      (record { answer = refl; count = refl; state = refl; status = refl; reply = refl; flash = refl })
-
-  example-7-status : Expected (nth 10)
-  unfolding fitOf streamLength appEnd dataAsked setupOf formOf allowedOf served getstatusOf answered polled entered pollTime
-  example-7-status =
-      shown (nth 10) _ _ at-error
-      (serves (held 10 0x0B 2 0 0 sums0) f (nth 10 .call) refl sized refl refl refl refl refl)
-      (record { answer = refl; count = refl; state = refl; status = refl; reply = refl; flash = refl })
-
-  example-8 : Expected (nth 11)
-  unfolding fitOf streamLength appEnd dataAsked setupOf formOf allowedOf served stallOf movedTo
-  example-8 =
-      shown (nth 11) _ _ at-start
-      (stalls (held 2 0 2 0 0 sums0) f (nth 11 .call) refl sized refl refl refl refl refl)
-      (record { answer = refl; count = refl; state = refl; status = refl; reply = refl; flash = refl })
-
-  example-9 : Expected (nth 12)
-  unfolding fitOf streamLength appEnd dataAsked setupOf formOf allowedOf served dnloadOf pieceOf closedOf faultOf movedTo
-  example-9 =
-      shown (nth 12) _ _ at-one
-      (serves (held 5 0 2 16384 1 (one-sums sums1)) w (nth 12 .call) refl w-long refl refl refl refl refl)
-      (record { answer = refl; count = refl; state = refl; status = refl; reply = refl; flash = refl })
-
-  example-10 : Expected (nth 13)
-  unfolding fitOf streamLength appEnd dataAsked setupOf formOf allowedOf served dnloadOf commandOf wellFormed carriedOut progOf faultOf movedTo
-  example-10 =
-      shown (nth 13) _ (leaves (outcome Answer.Faulted 0 (held 10 0x05 2 0 0 (zero-sums sums1))) z buffer) at-zero
-      (serves (held 2 0 2 0 0 (zero-sums sums1)) z (nth 13 .call) refl z-long refl refl refl refl refl ∙ rw z-unerased)
-      (record { answer = refl; count = refl; state = refl; status = refl; reply = refl; flash = refl })
-
-  example-11-cleared : Expected (nth 14)
-  unfolding fitOf streamLength appEnd dataAsked setupOf formOf allowedOf served movedTo
-  example-11-cleared =
-      shown (nth 14) _ _ at-error
-      (serves (held 10 0x0B 2 0 0 sums0) f (nth 14 .call) refl sized refl refl refl refl refl)
-      (record { answer = refl; count = refl; state = refl; status = refl; reply = refl; flash = refl })
-
-  example-11-stalled : Expected (nth 15)
-  unfolding fitOf streamLength appEnd dataAsked setupOf formOf allowedOf served stallOf movedTo
-  example-11-stalled =
-      shown (nth 15) _ _ at-start
-      (stalls (held 2 0 2 0 0 sums0) f (nth 15 .call) refl sized refl refl refl refl refl)
-      (record { answer = refl; count = refl; state = refl; status = refl; reply = refl; flash = refl })
-
+  -- all that each asks and expects is computed where it stands
   desk : All Expected (deskCases p q f buffer)
+  unfolding fitOf streamLength appEnd dataAsked setupOf formOf allowedOf served stallOf faultOf movedTo answered getstateOf queryOf getstatusOf polled entered pollTime dnloadOf commandOf wellFormed carriedOut eraseOf progOf wroteOf pieceOf closedOf
   desk = (
-    example-1,
+    example 0 _ _ at-start (serves _ f _ refl sized refl refl refl refl refl) refl refl refl refl refl refl,
     (
-      example-2,
+      example 1 _ _ at-start (serves _ f _ refl sized refl refl refl refl refl) refl refl refl refl refl refl,
       (
-        example-3-taken,
+        example 2 _ _ at-start (serves _ f _ refl sized refl refl refl refl refl) refl refl refl refl refl refl,
         (
-          example-3-faulted,
+          example 3 _ _ at-start (serves _ f _ refl sized refl refl refl refl refl) refl refl refl refl refl refl,
           (
-            example-4,
+            example 4 _ _ at-start (serves _ f _ refl sized refl refl refl refl refl) refl refl refl refl refl refl,
             (
-              example-5-taken,
+              example 5 _ (leaves (outcome Answer.Taken 0 (held 3 0 5 64512 1024 (sumsAfter (boardOf 16 64 p q) sums1 w (startOf 63) 0))) w buffer) at-erased (serves _ w _ refl w-long refl refl refl refl refl ∙ rw (w-erased 63 1024 (omega arith) (omega arith), spliced-none w (startOf 63))) refl refl refl refl refl refl,
               (
-                example-5-faulted,
+                example 6 _ _ at-erased (serves _ w _ refl w-long refl refl refl refl refl) refl refl refl refl refl refl,
                 (
-                  example-6-none,
+                  example 7 _ _ at-start (serves _ f _ refl sized refl refl refl refl refl) refl refl refl refl refl refl,
                   (
-                    example-6-huge,
+                    example 8 _ _ at-start (serves _ f _ refl sized refl refl refl refl refl) refl refl refl refl refl refl,
                     (
-                      example-7-faulted,
+                      example 9 _ _ at-start (serves _ f _ refl sized refl refl refl refl refl) refl refl refl refl refl refl,
                       (
-                        example-7-status,
+                        example 10 _ _ at-error (serves _ f _ refl sized refl refl refl refl refl) refl refl refl refl refl refl,
                         (
-                          example-8,
+                          example 11 _ _ at-start (stalls _ f _ refl sized refl refl refl refl refl) refl refl refl refl refl refl,
                           (
-                            example-9,
+                            example 12 _ _ at-one (serves _ w _ refl w-long refl refl refl refl refl) refl refl refl refl refl refl,
                             (
-                              example-10,
+                              example 13 _ (leaves (outcome Answer.Faulted 0 (held 10 0x05 2 0 0 (zero-sums sums1))) z buffer) at-zero (serves _ z _ refl z-long refl refl refl refl refl ∙ rw z-unerased) refl refl refl refl refl refl,
                               (
-                                example-11-cleared,
+                                example 14 _ _ at-error (serves _ f _ refl sized refl refl refl refl refl) refl refl refl refl refl refl,
                                 (
-                                  example-11-stalled,
+                                  example 15 _ _ at-start (stalls _ f _ refl sized refl refl refl refl refl) refl refl refl refl refl refl,
                                   tt,
                                 ),
                               ),
