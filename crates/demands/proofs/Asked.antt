@@ -17,27 +17,23 @@ use Rattle.demands.specs.Calls.{Call, Site}
 use Rattle.demands.specs.Asked.{SaysDnload, Prepared}
 use Rattle.demands.proofs.Ways.{pick}
 
--- how many data bytes a setup asks for
+-- the parts of eight setup bytes, and how many data bytes they ask for
 module _ (setup : List ℕ) (eight : length setup ≡ 8) where
-  kind-is : setupOf setup .kind ≡ getD setup 0 0
+  pub setup-read :
+      setupOf setup
+      ≡ record {
+        kind = getD setup 0 0;
+        number = getD setup 1 0;
+        value = wordAt setup 2;
+        index = wordAt setup 4;
+        length = wordAt setup 6;
+      }
   unfolding setupOf
-  kind-is = rw eight
-
-  number-is : setupOf setup .number ≡ getD setup 1 0
-  unfolding setupOf
-  number-is = rw eight
-
-  length-is : setupOf setup .length ≡ wordAt setup 6
-  unfolding setupOf
-  length-is = rw eight
+  setup-read = rw (eq-eqb _ _ eight)
 
   asked : dataAsked setup ≡ cond (eqb (getD setup 0 0) 0x21 && eqb (getD setup 1 0) 1) (wordAt setup 6) 0
   unfolding dataAsked
-  asked =
-      let by : ℕ → ℕ → ℕ → ℕ = λ k n l. cond (eqb k 0x21 && eqb n 1) l 0 in
-      ap (λ (k : ℕ). by k (setupOf setup .number) (setupOf setup .length)) kind-is
-      ∙ ap (λ (n : ℕ). by (getD setup 0 0) n (setupOf setup .length)) number-is
-      ∙ ap (λ (l : ℕ). by (getD setup 0 0) (getD setup 1 0) l) length-is
+  asked = ap (λ x. cond (eqb (x .kind) 0x21 && eqb (x .number) 1) (x .length) 0) setup-read
 
   asked-dnload : SaysDnload setup → dataAsked setup ≡ wordAt setup 6
   asked-dnload h = asked ∙ rw (h .0, h .1)

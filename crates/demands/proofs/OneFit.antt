@@ -329,7 +329,7 @@ pub started :
 unfolding startOutcome
 started f a b part0 part1 h = rw (allowed-startable f a b h)
 
-not-started :
+pub not-started :
     (f : List ℕ) (a b part0 part1 : ℕ) → (AllowedStart f a b → ⊥)
     → startOutcome f a b part0 part1 ≡ outcome Answer.Unfit 0 zerosOf
 unfolding startOutcome

@@ -5,7 +5,7 @@ use mathlib.Core.Bool.{Bool, true, false, cond}
 use mathlib.Core.List.{List, []}
 use mathlib.Core.Path.{_≡_, refl, sym, ap, ap₂, _∙_}
 use native.Mathlib.Omega.{arith}
-use borrow.Author.Tests.{eq-eqb, le-leb}
+use borrow.Author.Tests.{le-leb}
 use lib.ListN.{length, take}
 use Rattle.session.specs.declared.Session.{Session}
 use Rattle.request.specs.declared.Request.{Request}
@@ -19,6 +19,7 @@ use Rattle.loader.specs.Reply.{getstatusOf}
 use Rattle.loader.specs.Upload.{uploadOf}
 use Rattle.loader.specs.Step.{ready, served, stepOf, withReply, withFlash}
 use Rattle.demands.specs.Calls.{Call, Site, called, next}
+use Rattle.demands.proofs.Asked.{prepared-from, prepared-ready}
 use Rattle.demands.specs.ReadBack.{Host, asks, replied, wasTaken, ranAfter, run}
 use Rattle.demands.specs.ReadBack.{setupFor, dnload, upload, poll, abort}
 
@@ -64,8 +65,9 @@ module _
     (s : Session) (f setup d reply : List ℕ) (r : Ready s f) (room : 1024 ≤ length reply)
     (eight : length setup ≡ 8) (asked : length d ≡ dataAsked setup) where
   is-ready : ready s (length f) setup (length d) (length reply) ≡ true
-  unfolding ready
-  is-ready = rw (eq-eqb _ _ eight, le-leb _ _ room, eq-eqb _ _ (r .sized), eq-eqb _ _ asked, r .fit)
+  is-ready =
+      let c : Call = record { setup = setup; bytes = d; reply = reply } in
+      prepared-ready (siteOf s f) c (prepared-from (siteOf s f) c eight room (r .sized) asked (r .fit))
 
   pub is-served :
       (q : Request) (n : ℕ) → requestOf setup ≡ q → wLength setup ≡ n → allowedOf q n (s .phase .state .0) ≡ true

@@ -6,8 +6,8 @@ use mathlib.Core.Logic.{_⊎_, inl, inr, ⊎-elim}
 use mathlib.Core.Path.{_≡_, refl, sym, ap, ap₂, _∙_}
 use native.Mathlib.Omega.{arith}
 use lib.Dec.{eqb}
-use lib.ListN.{length, getD}
-use borrow.Author.Tests.{eq-eqb, ne-eqb, eqb-true, eqb-false, not-true, le-leb}
+use lib.ListN.{length}
+use borrow.Author.Tests.{ne-eqb, eqb-true, eqb-false, not-true, le-leb}
 use Rattle.session.specs.Codes.{knownState}
 use Rattle.session.specs.Fit.{OneOfSix}
 use Rattle.session.proofs.Laws.{fit-facts, cases-state}
@@ -21,14 +21,13 @@ use Rattle.loader.specs.Step.{served}
 use Rattle.demands.specs.Calls.{Call, Site, called}
 use Rattle.demands.specs.Asked.{stateOf, Prepared, Says, Form, Allowed, Asks, NoRequest}
 use Rattle.demands.specs.Asked.Form.{dnload, upload, getstatus, clrstatus, getstate, abort, query}
-use Rattle.demands.proofs.Asked.{prepared-asked}
+use Rattle.demands.proofs.Asked.{setup-read, prepared-asked}
 use Rattle.demands.proofs.TwoLaws.{sound-served, sound-stalled}
 
 module _ (setup : List ℕ) (eight : length setup ≡ 8) where
   -- what the parts of eight setup bytes are
   said : (kind number n : ℕ) → Says setup kind number n → setupOf setup ≡ record { kind = kind; number = number; value = wordAt setup 2; index = 0; length = n }
-  unfolding setupOf
-  said kind number n s = rw (eq-eqb _ _ eight, s .typed, s .numbered, s .no-index, s .long)
+  said kind number n s = setup-read setup eight ∙ rw (s .typed, s .numbered, s .no-index, s .long)
 
   pub form-request : (r : Request) (n : ℕ) → Form setup n r → requestOf setup ≡ r
   unfolding formOf
@@ -50,35 +49,16 @@ module _ (setup : List ℕ) (eight : length setup ≡ 8) where
   form-length Request.Query n (query s e v) = ap (λ x. x .length) (said 0xA1 0x42 n s)
 
   -- and back: what is read as a request is in form
-  kind-read : setupOf setup .kind ≡ getD setup 0 0
-  unfolding setupOf
-  kind-read = rw (eq-eqb _ _ eight)
-
-  number-read : setupOf setup .number ≡ getD setup 1 0
-  unfolding setupOf
-  number-read = rw (eq-eqb _ _ eight)
-
-  value-read : setupOf setup .value ≡ wordAt setup 2
-  unfolding setupOf
-  value-read = rw (eq-eqb _ _ eight)
-
-  index-read : setupOf setup .index ≡ wordAt setup 4
-  unfolding setupOf
-  index-read = rw (eq-eqb _ _ eight)
-
-  length-read : setupOf setup .length ≡ wordAt setup 6
-  unfolding setupOf
-  length-read = rw (eq-eqb _ _ eight)
-
   module _ (kind number least most : ℕ) (e : hasForm (setupOf setup) kind number least most ≡ true) where
     says : Says setup kind number (wLength setup)
     says =
         let f = form-facts (setupOf setup) kind number least most e in
+        let read = sym (setup-read setup eight) in
         record {
-          typed = sym kind-read ∙ f .0;
-          numbered = sym number-read ∙ f .1;
-          no-index = sym index-read ∙ f .2;
-          long = sym length-read;
+          typed = ap (λ x. x .kind) read ∙ f .0;
+          numbered = ap (λ x. x .number) read ∙ f .1;
+          no-index = ap (λ x. x .index) read ∙ f .2;
+          long = ap (λ x. x .length) read;
         }
 
     least-said : least ≤ wLength setup
@@ -99,7 +79,7 @@ module _ (setup : List ℕ) (eight : length setup ≡ 8) where
       let v = eqb (setupOf setup .value) 0x23 in
       let h = left-of q v e in
       query (says 0xA1 0x42 4 4 h) (omega (arith, least-said 0xA1 0x42 4 4 h, most-said 0xA1 0x42 4 4 h))
-      (sym value-read ∙ eqb-true _ _ (right-of q v e))
+      (ap (λ x. x .value) (sym (setup-read setup eight)) ∙ eqb-true _ _ (right-of q v e))
   in-form Request.Nothing e some = absurd (some refl)
 
   pub request-form : (r : Request) → requestOf setup ≡ r → (r ≡ Request.Nothing → ⊥) → Form setup (wLength setup) r

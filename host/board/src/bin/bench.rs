@@ -20,6 +20,7 @@ mod zlib;
 
 use clock::{Row, REPETITIONS};
 use mullirim_board::{request, start, Answer, Session};
+use mullirim_host::second;
 use mullirim_host::tape::setup;
 use std::ops::Range;
 use std::process::ExitCode;
@@ -27,7 +28,7 @@ use std::process::ExitCode;
 /// The board of the paper's desk examples.
 const FIRST: u16 = 16;
 const BLOCKS: u16 = 64;
-const BLOCK: usize = 1_024;
+const BLOCK: usize = second::BLOCK as usize;
 const FLASH: usize = BLOCKS as usize * BLOCK;
 const APPLICATION: Range<usize> = FIRST as usize * BLOCK..FLASH;
 
