@@ -17,13 +17,22 @@ answerNumber Answer.ResetAsked = 4
 abbrev pub outcome : Answer → ℕ → Session → Outcome
 outcome answer count session = record { answer = answer; count = count; session = session }
 
--- all that a call leaves
+-- all that a call leaves: the answer by its number, how many bytes of the reply are meant, the session for the next call, the flash and
+-- the reply buffer
 pub record Leaves : Type 0 where
-  pub outcome : Outcome
+  pub answer : ℕ
+  pub count : ℕ
+  pub session : Session
   pub flash : List ℕ
   pub reply : List ℕ
 
--- an outcome with the flash at exit: all that a request leaves that doesn't reply
+-- all that a start leaves
+pub record Told : Type 0 where
+  pub answer : ℕ
+  pub count : ℕ
+  pub session : Session
+
+-- an outcome with the flash at exit: what is left once a job is carried out
 pub record Done : Type 0 where
   pub outcome : Outcome
   pub flash : List ℕ
@@ -34,7 +43,11 @@ pub record Replied : Type 0 where
   pub reply : List ℕ
 
 abbrev pub leaves : Outcome → List ℕ → List ℕ → Leaves
-leaves o flash reply = record { outcome = o; flash = flash; reply = reply }
+leaves o flash reply =
+    record { answer = answerNumber (o .answer); count = o .count; session = o .session; flash = flash; reply = reply }
+
+abbrev pub told : Outcome → Told
+told o = record { answer = answerNumber (o .answer); count = o .count; session = o .session }
 
 abbrev pub done : Outcome → List ℕ → Done
 done o flash = record { outcome = o; flash = flash }

@@ -1,0 +1,75 @@
+-- A job: what a call does to flash, as single stores, as the flash that they leave, and with the sums that go with it.
+use Prim.Native.Nat.{ℕ, _+_, _≤_}
+use mathlib.Core.Bool.{cond}
+use mathlib.Core.List.{List, []}
+use lib.Dec.{eqb}
+use lib.ListN.{length, drop}
+use Rattle.flash.specs.declared.Addr.{Addr}
+use Rattle.flash.specs.declared.Block.{Block}
+use Rattle.flash.specs.Flash.{startOf, holderOf, nextStart, spliced, blank, erased, Store, stores}
+use Rattle.sums.specs.Sum.{refreshed, Split}
+use Rattle.sums.specs.declared.Sums.{Sums}
+use Rattle.session.specs.Session.{appEnd, withSums}
+use Rattle.session.specs.declared.Board.{Board}
+use Rattle.moves.specs.declared.Outcome.{Outcome}
+use Rattle.moves.specs.Answers.{Done, outcome, done}
+use Rattle.jobs.specs.declared.Plan.{Plan}
+use Rattle.jobs.specs.declared.Job.{Job}
+use Rattle.jobs.specs.declared.Job.the-variants.{Nothing, Bytes, Wipe}
+
+abbrev pub planOf : Outcome → Job → Plan
+planOf o job = record { outcome = o; job = job }
+
+-- some bytes of the data that come with a call, and some blocks
+abbrev pub bytesTo : ℕ → ℕ → Job
+bytesTo at skip = Bytes (record { 0 = at }) skip
+
+abbrev pub wipeOf : ℕ → ℕ → Job
+wipeOf first count = Wipe (record { 0 = first }) count
+
+-- n bytes from an address on that lie in the application
+pub record Place (board : Board) (at n : ℕ) : Type 0 where
+  pub low : startOf (board .a .0) ≤ at
+  pub high : at + n ≤ startOf (appEnd board)
+
+-- a job that can be carried out: what it stores lies in the application
+abbrev pub Can : Job → Board → List ℕ → Type 0
+Can Nothing board d = Unit
+Can (Bytes at skip) board d = (skip ≤ length d) × Place board (at .0) (length (drop skip d))
+Can (Wipe first count) board d = Place board (startOf (first .0)) (startOf count)
+
+-- the single stores of a job, the first of them first
+unfoldable pub storesFor : Job → List ℕ → List Store
+storesFor Nothing d = []
+storesFor (Bytes at skip) d = stores (at .0) (drop skip d)
+storesFor (Wipe first count) d = stores (startOf (first .0)) (blank (startOf count))
+
+-- the sums after n bytes were stored from an address on: no byte touches no block
+unfoldable pub sumsAfter : Board → Sums → List ℕ → ℕ → ℕ → Sums
+sumsAfter board kept flash at n =
+    cond (eqb n 0) kept (refreshed kept flash (board .a .0) (appEnd board) (holderOf at) (nextStart (at + n)))
+
+-- the sums after blocks were erased
+unfoldable pub sumsWiped : Board → Sums → List ℕ → ℕ → ℕ → Sums
+sumsWiped board kept flash first count = refreshed kept flash (board .a .0) (appEnd board) first (first + count)
+
+-- an outcome with other sums in its session
+abbrev pub summed : Outcome → Sums → Outcome
+summed o sums = outcome (o .answer) (o .count) (withSums (o .session) sums)
+
+-- an outcome once bytes stand in flash, and once blocks are erased
+unfoldable pub bytesDone : Outcome → List ℕ → ℕ → List ℕ → Done
+bytesDone o flash at bytes =
+    done (summed o (sumsAfter (o .session .board) (o .session .sums) (spliced flash at bytes) at (length bytes)))
+    (spliced flash at bytes)
+
+unfoldable pub wipeDone : Outcome → List ℕ → ℕ → ℕ → Done
+wipeDone o flash first count =
+    done (summed o (sumsWiped (o .session .board) (o .session .sums) (erased flash first count) first count))
+    (erased flash first count)
+
+-- an outcome once its job is carried out: the flash with the job's stores, and the sums of the blocks that they touch anew
+unfoldable pub carriedOut : Job → Outcome → List ℕ → List ℕ → Done
+carriedOut Nothing o flash d = done o flash
+carriedOut (Bytes at skip) o flash d = bytesDone o flash (at .0) (drop skip d)
+carriedOut (Wipe first count) o flash d = wipeDone o flash (first .0) count

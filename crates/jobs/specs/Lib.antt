@@ -1,0 +1,2 @@
+-- What a call does to flash.
+pub mod Job
