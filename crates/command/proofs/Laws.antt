@@ -1,27 +1,30 @@
 -- What a ready session's numbers say of its flash: where the application lies, and that ranges in it lie in flash. Assumes nothing.
-use Prim.Native.Nat.{ℕ, _+_, _-_, _≤_}
-use mathlib.Core.Bool.{true, _&&_}
+use Prim.Native.Nat.{ℕ, _+_, _-_, _≤_, _<_}
+use mathlib.Core.Bool.{Bool, true, false, cond, _&&_}
 use mathlib.Core.List.{List}
-use mathlib.Core.Path.{_≡_, ap, ap₂, _∙_}
+use mathlib.Core.Logic.{⊎-elim}
+use mathlib.Core.Path.{_≡_, refl, sym, subst}
 use native.Mathlib.Omega.{arith}
-use borrow.Author.Tests.{leb-true, ne-eqb}
-use lib.Dec.{leb}
-use lib.ListN.{length, getD, take, drop, length-drop}
-use lib.Seq.{take-all}
-use Rattle.flash.specs.Flash.{startOf, Within, spliced, erased}
-use Rattle.sums.specs.Sum.{Split, refreshed}
-use Rattle.sums.specs.declared.Sums.{Sums}
-use Rattle.session.specs.Codes.{idle, downloadIdle}
-use Rattle.session.specs.Session.{appEnd, withSums, downOf, noDownload}
-use Rattle.session.specs.Rules.{inApplication}
+use borrow.Author.Tests.{leb-true, eqb-false, ne-eqb}
+use lib.Dec.{eqb, leb}
+use lib.ListN.{length, getD, drop, length-drop}
+use Rattle.flash.specs.Flash.{startOf, Within}
+use Rattle.sums.specs.Sum.{Split}
+use Rattle.session.specs.Codes.{idle, downloadIdle, checkErased, address, vendor}
+use Rattle.session.specs.Session.{appEnd, freshOf}
+use Rattle.session.specs.Rules.{running, inApplication}
 use Rattle.session.specs.declared.Session.{Session}
-use Rattle.session.proofs.Laws.{fit-kept, split-facts, end-in-flash, end-after-start, inside-facts}
+use Rattle.session.proofs.Laws.{fit-kept, fit-facts, split-facts, end-in-flash, end-after-start, inside-facts}
 use Rattle.session.proofs.Tests.{left-of}
 use Rattle.moves.specs.declared.Outcome.{Outcome}
-use Rattle.moves.specs.Answers.{done}
-use Rattle.moves.specs.Moves.{toSync, takenOf, resetOf}
-use Rattle.command.specs.Ready.{Ready, Place}
-use Rattle.command.specs.Download.{sumsAfter, wroteOf, wellFormed, carriedOut, prog, read, check, erase, info, bin, reset}
+use Rattle.moves.specs.Moves.{movedTo, faultOf, resetOf}
+use Rattle.jobs.specs.declared.Plan.{Plan}
+use Rattle.jobs.specs.declared.Job.{Job}
+use Rattle.jobs.specs.Job.{planOf, Place, Can}
+use Rattle.jobs.proofs.Laws.{place-within}
+use Rattle.command.specs.Ready.{Ready, Loading}
+use Rattle.command.specs.Download.{prog, read, check, erase, info, bin, reset, allErased, wroteOf, faultPlan, progOf, readOf, checkOf}
+use Rattle.command.specs.Download.{eraseOf, infoOf, binOf, wellFormed, byNumber, commandOf, closedOf, pieceOf, dnloadOf}
 
 module _ (s : Session) (f : List ℕ) (r : Ready s f) where
   pub ready-split : Split f (s .board .a .0) (appEnd (s .board))
@@ -34,47 +37,13 @@ module _ (s : Session) (f : List ℕ) (r : Ready s f) where
       record { ordered = omega arith; counted = omega arith; inside = omega arith }
 
   pub ready-within : (at n : ℕ) → Place (s .board) at n → Within f at n
-  ready-within at n p = let g = ready-split in record { inside = omega arith; addressed = omega arith }
+  ready-within at n p = place-within (s .board) f at n ready-split p
 
   pub ready-place : (block len : ℕ) → inApplication (s .board) block len ≡ true → Place (s .board) (startOf block) len
   ready-place block len e = let i = inside-facts (s .board) block len e in record { low = omega arith; high = i .to }
 
   pub ready-range : (block len : ℕ) → inApplication (s .board) block len ≡ true → Within f (startOf block) len
   ready-range block len e = ready-within (startOf block) len (ready-place block len e)
-
--- a refresh of the same blocks
-pub same-refresh : (kept : Sums) (f : List ℕ) (a : ℕ) {e e′ i i′ j j′ : ℕ} → e ≡ e′ → i ≡ i′ → j ≡ j′ → refreshed kept f a e i j ≡ refreshed kept f a e′ i′ j′
-same-refresh kept f a {e} {e′} {i} {i′} {j} {j′} p q r =
-    ap (λ (x : ℕ). refreshed kept f a x i j) p ∙ ap₂ (λ (x y : ℕ). refreshed kept f a e′ x y) q r
-
--- what a write leaves, from what its calls answer
-pub wrote : (s : Session) (f : List ℕ) (at : ℕ) (bytes : List ℕ) (left : ℕ) (g : List ℕ) (sums : Sums) (t : Session) (o : Outcome)
-    → g ≡ spliced f at bytes
-    → sums ≡ sumsAfter (s .board) (s .sums) g at (length bytes)
-    → t ≡ toSync (withSums s sums) downloadIdle (downOf (at + length bytes) left)
-    → o ≡ takenOf t
-    → done o g ≡ wroteOf s f at bytes left
-unfolding wroteOf
-wrote s f at bytes left g sums t o p q r e =
-    let next : Sums → Session = λ x. toSync (withSums s x) downloadIdle (downOf (at + length bytes) left) in
-    ap (λ (x : Outcome). done x g) (e ∙ ap takenOf (r ∙ ap next q))
-    ∙ ap (λ (x : List ℕ). done (takenOf (next (sumsAfter (s .board) (s .sums) x at (length bytes)))) x) p
-
--- what an erase leaves, from what its calls answer
-pub wiped : (s : Session) (f : List ℕ) (block count : ℕ) (g : List ℕ) (sums : Sums) (t : Session) (o : Outcome)
-    → g ≡ erased f block count
-    → sums ≡ refreshed (s .sums) g (s .board .a .0) (appEnd (s .board)) block (block + count)
-    → t ≡ toSync (withSums s sums) idle noDownload
-    → o ≡ takenOf t
-    → done o g ≡ done (takenOf (toSync (withSums s (refreshed (s .sums) (erased f block count) (s .board .a .0) (appEnd (s .board)) block (block + count))) idle noDownload)) (erased f block count)
-wiped s f block count g sums t o p q r e =
-    let next : Sums → Session = λ x. toSync (withSums s x) idle noDownload in
-    ap (λ (x : Outcome). done x g) (e ∙ ap takenOf (r ∙ ap next q))
-    ∙ ap (λ (x : List ℕ). done (takenOf (next (refreshed (s .sums) x (s .board .a .0) (appEnd (s .board)) block (block + count)))) x) p
-
--- the same outcome over a flash that stays
-pub done-over : (f : List ℕ) {o o′ : Outcome} → o ≡ o′ → done o f ≡ done o′ f
-done-over f e = ap (λ (x : Outcome). done x f) e
 
 -- a well-formed command has its eight bytes
 pub long-enough : (d : List ℕ) → wellFormed d ≡ true → 8 ≤ length d
@@ -93,11 +62,114 @@ pub last-command : (code : ℕ) (s : Session) (f d : List ℕ)
     → (code ≡ erase → ⊥)
     → (code ≡ info → ⊥)
     → (code ≡ bin → ⊥)
-    → carriedOut code s f d ≡ done (resetOf s) f
-unfolding carriedOut
+    → byNumber code s f d ≡ planOf (resetOf s) Job.Nothing
+unfolding byNumber
 last-command code s f d n1 n2 n3 n4 n5 n6 =
     rw (ne-eqb _ _ n1, ne-eqb _ _ n2, ne-eqb _ _ n3, ne-eqb _ _ n4, ne-eqb _ _ n5, ne-eqb _ _ n6)
 
--- a part from a place to the end
-pub to-the-end : (n : ℕ) (d : List ℕ) → take (length d - n) (drop n d) ≡ drop n d
-to-the-end n d = take-all (length d - n) (drop n d) (rw length-drop (omega arith))
+-- a plan whose session has the same board, with a job that can be carried out
+pub record Doable (s : Session) (f d : List ℕ) (p : Plan) : Type 0 where
+  pub board : p .outcome .session .board ≡ s .board
+  pub can : Can (p .job) (s .board) f d
+
+-- what holds of both values of a test's pick holds of the pick
+pub pick : {A : Type 0} (P : A → Type 0) (t : Bool) (x y : A) → (t ≡ true → P x) → (t ≡ false → P y) → P (cond t x y)
+pick P true x y h k = h refl
+pick P false x y h k = k refl
+
+-- what a DNLOAD asks for can be carried out: its bytes lie in the application
+module _ (s : Session) (f d : List ℕ) where
+  -- an outcome alone, on the same board
+  pub only-can : (o : Outcome) → o .session .board ≡ s .board → Doable s f d (planOf o Job.Nothing)
+  only-can o e = record { board = e; can = tt }
+
+  fault-can : (status : ℕ) → Doable s f d (faultPlan s status)
+  unfolding faultOf movedTo
+  fault-can status = only-can (faultOf s status) refl
+
+module _ (s : Session) (f d : List ℕ) (r : Ready s f) where
+  wrote-can :
+      (at skip n left : ℕ) → skip ≤ length d → n ≡ length (drop skip d) → Place (s .board) at n
+      → Doable s f d (wroteOf s at skip n left)
+  unfolding wroteOf movedTo
+  wrote-can at skip n left few e p = record { board = refl; can = (few, ready-split s f r, subst (Place (s .board) at) e p) }
+
+  prog-can : 8 ≤ length d → (block len : ℕ) → Doable s f d (progOf s f block len (length d - 8))
+  unfolding progOf
+  prog-can long block len =
+      pick (Doable s f d) (inApplication (s .board) block len) _ _
+      (λ i.
+      pick (Doable s f d) (leb (length d - 8) len) _ _
+      (λ n.
+      let facts = inside-facts (s .board) block len i in
+      let few : length d - 8 ≤ len = leb-true _ _ n in
+      pick (Doable s f d) (allErased f block len) _ _
+      (λ _.
+      wrote-can (startOf block) 8 (length d - 8) (len - (length d - 8)) long (sym (length-drop 8 d))
+      (record { low = omega arith; high = omega arith }))
+      (λ _. fault-can s f d checkErased))
+      (λ _. fault-can s f d address))
+      (λ _. fault-can s f d address)
+
+  erase-can : (block count : ℕ) → Doable s f d (eraseOf s block count)
+  unfolding eraseOf movedTo
+  erase-can block count =
+      pick (Doable s f d) (inApplication (s .board) block (startOf count)) _ _
+      (λ i.
+      let facts = inside-facts (s .board) block (startOf count) i in
+      record { board = refl; can = (ready-split s f r, record { low = omega arith; high = facts .to }) })
+      (λ _. fault-can s f d address)
+
+  -- the commands that change no flash keep the board
+  read-board : (block len : ℕ) → readOf s block len .session .board ≡ s .board
+  unfolding readOf faultOf movedTo
+  read-board block len =
+      pick (λ (o : Outcome). o .session .board ≡ s .board) (inApplication (s .board) block len) _ _ (λ _. refl) (λ _. refl)
+
+  check-board : (block len : ℕ) → checkOf s f block len .session .board ≡ s .board
+  unfolding checkOf faultOf movedTo
+  check-board block len =
+      pick (λ (o : Outcome). o .session .board ≡ s .board) (inApplication (s .board) block len) _ _
+      (λ _.
+      pick (λ (o : Outcome). o .session .board ≡ s .board) (allErased f block len) _ _ (λ _. refl) (λ _. refl))
+      (λ _. refl)
+
+  numbered-can : 8 ≤ length d → (code : ℕ) → Doable s f d (byNumber code s f d)
+  unfolding byNumber infoOf binOf resetOf freshOf movedTo
+  numbered-can long code =
+      pick (Doable s f d) (eqb code prog) _ _ (λ _. prog-can long _ _)
+      (λ _.
+      pick (Doable s f d) (eqb code read) _ _ (λ _. only-can s f d _ (read-board _ _))
+      (λ _.
+      pick (Doable s f d) (eqb code check) _ _ (λ _. only-can s f d _ (check-board _ _))
+      (λ _.
+      pick (Doable s f d) (eqb code erase) _ _ (λ _. erase-can _ _)
+      (λ _.
+      pick (Doable s f d) (eqb code info) _ _ (λ _. only-can s f d (infoOf s) refl)
+      (λ _.
+      pick (Doable s f d) (eqb code bin) _ _ (λ _. only-can s f d (binOf s (getD d 1 0)) refl) (λ _. only-can s f d (resetOf s) refl))))))
+
+  piece-can : s .phase .state .0 ≡ downloadIdle → Doable s f d (pieceOf s (length d))
+  unfolding pieceOf closedOf faultOf movedTo
+  piece-can here =
+      let facts = fit-facts s (r .fit) in
+      let runs : running (s .phase) ≡ true = rw here in
+      pick (Doable s f d) (eqb (length d) 0) _ _
+      (λ _.
+      only-can s f d (closedOf s)
+      (pick (λ (o : Outcome). o .session .board ≡ s .board) (eqb (s .down .left) 0) _ _ (λ _. refl) (λ _. refl)))
+      (λ _.
+      pick (Doable s f d) (leb (length d) (s .down .left)) _ _
+      (λ n.
+      let few : length d ≤ s .down .left = leb-true _ _ n in
+      wrote-can (s .down .place .0) 0 (length d) _ (omega arith) refl
+      (record { low = facts .place-from runs; high = omega (arith, facts .left-to runs, few) }))
+      (λ _. fault-can s f d address))
+
+  pub dnload-can : Loading s → Doable s f d (dnloadOf s f d)
+  unfolding dnloadOf commandOf
+  dnload-can l =
+      pick (Doable s f d) (eqb (s .phase .state .0) idle) _ _
+      (λ _.
+      pick (Doable s f d) (wellFormed d) _ _ (λ g. numbered-can (long-enough d g) (getD d 0 0)) (λ _. fault-can s f d vendor))
+      (λ n. ⊎-elim (λ e. absurd (eqb-false _ _ n e)) (λ e. piece-can e) (l .in-two))

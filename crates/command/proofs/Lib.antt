@@ -1,3 +1,2 @@
 -- Laws of a ready session.
-pub mod Picks
 pub mod Laws

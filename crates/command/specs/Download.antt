@@ -4,19 +4,18 @@ use mathlib.Core.Bool.{Bool, true, false, cond, _&&_, _||_}
 use mathlib.Core.List.{List}
 use lib.Dec.{eqb, leb}
 use lib.ListN.{length, getD, drop}
-use Rattle.flash.specs.Flash.{startOf, holderOf, nextStart, spliced, erased, searched}
+use Rattle.flash.specs.Flash.{startOf, searched}
 use Rattle.flash.specs.declared.Found.{Found}
-use Rattle.sums.specs.Sum.{refreshed}
-use Rattle.sums.specs.declared.Sums.{Sums}
 use Rattle.session.specs.Codes.{idle, downloadIdle, manifestSync, ok, checkErased, address, notDone, vendor}
-use Rattle.session.specs.Session.{phaseOf, downOf, noDownload, upOf, withUp, withSums, appEnd, flashStream, infoBytes}
+use Rattle.session.specs.Session.{phaseOf, downOf, noDownload, upOf, withUp, flashStream, infoBytes}
 use Rattle.session.specs.Rules.{inApplication}
-use Rattle.session.specs.declared.Board.{Board}
 use Rattle.session.specs.declared.Session.{Session}
 use Rattle.request.specs.Request.{wordAt}
 use Rattle.moves.specs.declared.Outcome.{Outcome}
-use Rattle.moves.specs.Answers.{Done, done}
 use Rattle.moves.specs.Moves.{movedTo, toSync, takenOf, faultOf, resetOf}
+use Rattle.jobs.specs.declared.Plan.{Plan}
+use Rattle.jobs.specs.declared.Job.{Job}
+use Rattle.jobs.specs.Job.{planOf, bytesTo, wipeOf}
 
 -- the 32-bit number at a place, low byte first
 abbrev pub longAt : List ℕ → ℕ → ℕ
@@ -53,29 +52,22 @@ nothing Found.Nothing = true
 unfoldable pub allErased : List ℕ → ℕ → ℕ → Bool
 allErased flash block len = nothing (searched flash block len)
 
--- the sums after n bytes were stored from an address on: no byte touches no block
-unfoldable pub sumsAfter : Board → Sums → List ℕ → ℕ → ℕ → Sums
-sumsAfter board kept flash at n =
-    cond (eqb n 0) kept (refreshed kept flash (board .a .0) (appEnd board) (holderOf at) (nextStart (at + n)))
+-- n bytes of the call's data, behind the first few of it, go to their places, and the download goes on behind them with so many left
+unfoldable pub wroteOf : Session → ℕ → ℕ → ℕ → ℕ → Plan
+wroteOf s at skip n left = planOf (takenOf (toSync s downloadIdle (downOf (at + n) left))) (bytesTo at skip)
 
--- data goes to its places, and the download goes on behind it with so many bytes left
-unfoldable pub wroteOf : Session → List ℕ → ℕ → List ℕ → ℕ → Done
-wroteOf s flash at bytes left =
-    done
-    (takenOf
-    (toSync (withSums s (sumsAfter (s .board) (s .sums) (spliced flash at bytes) at (length bytes))) downloadIdle
-    (downOf (at + length bytes) left)))
-    (spliced flash at bytes)
+-- a fault leaves flash alone, whatever it is
+abbrev pub faultPlan : Session → ℕ → Plan
+faultPlan s status = planOf (faultOf s status) Job.Nothing
 
--- PROG: starts a download; further bytes of the request are its first data
-unfoldable pub progOf : Session → List ℕ → ℕ → ℕ → List ℕ → Done
-progOf s flash block len bytes =
+-- PROG: starts a download; the n bytes of the request behind its eight are its first data
+unfoldable pub progOf : Session → List ℕ → ℕ → ℕ → ℕ → Plan
+progOf s flash block len n =
     cond (inApplication (s .board) block len)
-    (cond (leb (length bytes) len)
-    (cond (allErased flash block len) (wroteOf s flash (startOf block) bytes (len - length bytes))
-    (done (faultOf s checkErased) flash))
-    (done (faultOf s address) flash))
-    (done (faultOf s address) flash)
+    (cond (leb n len)
+    (cond (allErased flash block len) (wroteOf s (startOf block) 8 n (len - n)) (faultPlan s checkErased))
+    (faultPlan s address))
+    (faultPlan s address)
 
 -- READ: chooses the flash stream and its range
 unfoldable pub readOf : Session → ℕ → ℕ → Outcome
@@ -92,18 +84,10 @@ checkOf s flash block len =
     (faultOf s address)
 
 -- ERASE: sets the blocks to 0xFF
-unfoldable pub eraseOf : Session → List ℕ → ℕ → ℕ → Done
-eraseOf s flash block count =
+unfoldable pub eraseOf : Session → ℕ → ℕ → Plan
+eraseOf s block count =
     cond (inApplication (s .board) block (startOf count))
-    (done
-    (takenOf
-    (toSync
-    (withSums s
-    (refreshed (s .sums) (erased flash block count) (s .board .a .0) (appEnd (s .board)) block (block + count)))
-    idle
-    noDownload))
-    (erased flash block count))
-    (done (faultOf s address) flash)
+    (planOf (takenOf (toSync s idle noDownload)) (wipeOf block count)) (faultPlan s address)
 
 -- INFO: the info bytes are what an upload reads from now on
 unfoldable pub infoOf : Session → Outcome
@@ -130,32 +114,30 @@ wellFormed d =
     && (eqb (getD d 0 0) prog || eqb (length d) 8)
 
 -- what the command of a number does: block in bytes 2-3, length in 4-7, count in 4-5
-unfoldable pub carriedOut : ℕ → Session → List ℕ → List ℕ → Done
-carriedOut code s flash d =
-    cond (eqb code prog) (progOf s flash (wordAt d 2) (longAt d 4) (drop 8 d))
-    (cond (eqb code read) (done (readOf s (wordAt d 2) (longAt d 4)) flash)
-    (cond (eqb code check) (done (checkOf s flash (wordAt d 2) (longAt d 4)) flash)
-    (cond (eqb code erase) (eraseOf s flash (wordAt d 2) (wordAt d 4))
-    (cond (eqb code info) (done (infoOf s) flash)
-    (cond (eqb code bin) (done (binOf s (getD d 1 0)) flash) (done (resetOf s) flash))))))
+unfoldable pub byNumber : ℕ → Session → List ℕ → List ℕ → Plan
+byNumber code s flash d =
+    cond (eqb code prog) (progOf s flash (wordAt d 2) (longAt d 4) (length d - 8))
+    (cond (eqb code read) (planOf (readOf s (wordAt d 2) (longAt d 4)) Job.Nothing)
+    (cond (eqb code check) (planOf (checkOf s flash (wordAt d 2) (longAt d 4)) Job.Nothing)
+    (cond (eqb code erase) (eraseOf s (wordAt d 2) (wordAt d 4))
+    (cond (eqb code info) (planOf (infoOf s) Job.Nothing)
+    (cond (eqb code bin) (planOf (binOf s (getD d 1 0)) Job.Nothing) (planOf (resetOf s) Job.Nothing))))))
 
 -- a DNLOAD in state idle is a command, whose number is byte 0
-unfoldable pub commandOf : Session → List ℕ → List ℕ → Done
-commandOf s flash d =
-    cond (wellFormed d) (carriedOut (getD d 0 0) s flash d) (done (faultOf s vendor) flash)
+unfoldable pub commandOf : Session → List ℕ → List ℕ → Plan
+commandOf s flash d = cond (wellFormed d) (byNumber (getD d 0 0) s flash d) (faultPlan s vendor)
 
 -- no bytes close a download: with bytes missing it faults, else manifest sync
 unfoldable pub closedOf : Session → Outcome
 closedOf s =
     cond (eqb (s .down .left) 0) (takenOf (movedTo s (phaseOf manifestSync ok idle) noDownload)) (faultOf s notDone)
 
--- a DNLOAD in state download idle is a piece of data, or the close
-unfoldable pub pieceOf : Session → List ℕ → List ℕ → Done
-pieceOf s flash d =
-    cond (eqb (length d) 0) (done (closedOf s) flash)
-    (cond (leb (length d) (s .down .left)) (wroteOf s flash (s .down .place .0) d (s .down .left - length d))
-    (done (faultOf s address) flash))
+-- a DNLOAD of n bytes in state download idle is a piece of data, or the close
+unfoldable pub pieceOf : Session → ℕ → Plan
+pieceOf s n =
+    cond (eqb n 0) (planOf (closedOf s) Job.Nothing)
+    (cond (leb n (s .down .left)) (wroteOf s (s .down .place .0) 0 n (s .down .left - n)) (faultPlan s address))
 
 -- DNLOAD
-unfoldable pub dnloadOf : Session → List ℕ → List ℕ → Done
-dnloadOf s flash d = cond (eqb (s .phase .state .0) idle) (commandOf s flash d) (pieceOf s flash d)
+unfoldable pub dnloadOf : Session → List ℕ → List ℕ → Plan
+dnloadOf s flash d = cond (eqb (s .phase .state .0) idle) (commandOf s flash d) (pieceOf s (length d))

@@ -1,5 +1,5 @@
 -- What holds once a call has been found fit: what the parts of a step ask of their callers.
-use Prim.Native.Nat.{ℕ, _+_, _≤_}
+use Prim.Native.Nat.{ℕ}
 use mathlib.Core.Bool.{true}
 use mathlib.Core.List.{List}
 use mathlib.Core.Logic.{_⊎_}
@@ -7,20 +7,13 @@ use mathlib.Core.Path.{_≡_}
 use lib.ListN.{length}
 use Rattle.flash.specs.Flash.{startOf}
 use Rattle.session.specs.Codes.{idle, downloadIdle}
-use Rattle.session.specs.Session.{appEnd}
 use Rattle.session.specs.Rules.{fitOf}
-use Rattle.session.specs.declared.Board.{Board}
 use Rattle.session.specs.declared.Session.{Session}
 
 -- a session that keeps its rules, with a flash of its length
 pub record Ready (s : Session) (flash : List ℕ) : Type 0 where
   pub fit : fitOf s ≡ true
   pub sized : length flash ≡ startOf (s .board .b .0)
-
--- n bytes from an address on that lie in the application
-pub record Place (board : Board) (at n : ℕ) : Type 0 where
-  pub low : startOf (board .a .0) ≤ at
-  pub high : at + n ≤ startOf (appEnd board)
 
 -- a session in a state that allows DNLOAD
 pub record Loading (s : Session) : Type 0 where

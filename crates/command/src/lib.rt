@@ -1,30 +1,27 @@
-// DNLOAD: the eight-byte commands in state idle, and pieces of data in state download idle.
+// DNLOAD: the eight-byte commands in state idle, and pieces of data in state download idle. Flash is only read here: what is to be done
+// to it is answered as a job.
 use flash::Addr;
-use flash::BLOCK;
 use flash::Block;
 use flash::Found;
 use flash::Reach;
+use jobs::Job;
+use jobs::Plan;
 use moves::Outcome;
-use session::Board;
 use session::Download;
 use session::Session;
 use session::State;
 use session::Status;
 use session::Upload;
-use sums::Sums;
 ghost use Prim.Native.Nat.{_+_, _≤_, _<_};
 ghost use mathlib.Core.Path.{_≡_};
 ghost use mathlib.Core.Bool.{Bool, true};
 ghost use lib.ListN.{length, getD};
-ghost use Rattle.flash.specs.Flash.{startOf, spliced};
-ghost use Rattle.sums.specs.Sum.{Split};
+ghost use Rattle.flash.specs.Flash.{startOf};
 ghost use Rattle.request.specs.Request.{wordAt};
-ghost use Rattle.session.specs.Session.{withSums, appEnd};
 ghost use Rattle.session.specs.Rules.{fitOf, inApplication};
-ghost use Rattle.moves.specs.Answers.{done};
-ghost use Rattle.command.specs.Ready.{Ready, Place, Loading};
-ghost use Rattle.command.specs.Download.{longAt, allErased, sumsAfter, wroteOf, progOf, readOf, checkOf, eraseOf};
-ghost use Rattle.command.specs.Download.{infoOf, prefixFor, binOf, wellFormed, carriedOut, commandOf, closedOf, pieceOf, dnloadOf};
+ghost use Rattle.command.specs.Ready.{Ready, Loading};
+ghost use Rattle.command.specs.Download.{longAt, allErased, wroteOf, faultPlan, progOf, readOf, checkOf, eraseOf};
+ghost use Rattle.command.specs.Download.{infoOf, prefixFor, binOf, wellFormed, byNumber, commandOf, closedOf, pieceOf, dnloadOf};
 
 // The commands' numbers.
 const PROG: u8 = 1;
@@ -59,68 +56,51 @@ fn erased(flash: &[u8], block: Block, len: u32) -> bool
     }
 }
 
-// The sums after n bytes were stored from `at` on. Where no byte was, the flash is not read.
-fn sums_after(board: Board, kept: Sums, flash: &[u8], at: Addr, n: u32) -> Sums
-    requires { ⌜ Split (now flash) (board .a .0) (appEnd board) ⌝ }
-    requires { ⌜ Place board (at .0) n ⌝ }
-    ensures { λ r. ⌜ r ≡ sumsAfter board kept (now (flash .entry)) (at .0) n ⌝ }
+// The call's data, but for the first `skip` bytes of it, is to go to its places, and the download goes on behind these n bytes.
+fn write(s: Session, at: Addr, skip: u32, n: u32, left: u32) -> Plan
+    requires { ⌜ at .0 + n < 4294967296 ⌝ }
+    ensures { λ r. ⌜ r ≡ wroteOf s (at .0) skip n left ⌝ }
 {
-    if n == 0 {
-        return kept;
-    }
-    let end = Addr(at.0 + n);
-    sums::refresh(
-        kept,
-        flash,
-        board.a,
-        session::app_end(board),
-        at.holder(),
-        end.next_start(),
-    )
-}
-
-// Data goes to its places, its blocks have their sums anew, and the download goes on behind it.
-fn write(s: Session, flash: &mut [u8], at: Addr, bytes: &[u8], left: u32) -> Outcome
-    requires { ⌜ Ready s (now flash) ⌝ }
-    requires { ⌜ Place (s .board) (at .0) (length (now bytes)) ⌝ }
-    ensures { λ r. ⌜ done r (now (flash .exit)) ≡ wroteOf s (now (flash .entry)) (at .0) (now (bytes .entry)) left ⌝ }
-{
-    let n = bytes.len() as u32;
-    flash::program(flash, at, bytes);
-    let sums = sums_after(s.board, s.sums, flash, at, n);
-    let mut t = s;
-    t.sums = sums;
     let down = Download {
         place: Addr(at.0 + n),
         left: left,
     };
-    moves::taken(moves::moved(
-        t,
+    let o = moves::taken(moves::moved(
+        s,
         State(State::DOWNLOAD_SYNC),
         Status(Status::OK),
         State(State::DOWNLOAD_IDLE),
         down,
-    ))
+    ));
+    Plan {
+        outcome: o,
+        job: Job::Bytes { at: at, skip: skip },
+    }
 }
 
-// Nothing is written before the range, the length and the erased check have passed.
-fn prog(s: Session, flash: &mut [u8], block: Block, len: u32, bytes: &[u8]) -> Outcome
+fn fault(s: Session, status: u8) -> Plan
+    ensures { λ r. ⌜ r ≡ faultPlan s status ⌝ }
+{
+    jobs::only(moves::faulted(s, status))
+}
+
+fn prog(s: Session, flash: &[u8], block: Block, len: u32, n: usize) -> Plan
     requires { ⌜ Ready s (now flash) ⌝ }
-    ensures { λ r. ⌜ done r (now (flash .exit)) ≡ progOf s (now (flash .entry)) (block .0) len (now (bytes .entry)) ⌝ }
+    ensures { λ r. ⌜ r ≡ progOf s (now (flash .entry)) (block .0) len n ⌝ }
 {
     if !session::in_application(s.board, block, len) {
-        return moves::faulted(s, Status::ADDRESS);
+        return fault(s, Status::ADDRESS);
     }
-    if (len as usize) < bytes.len() {
-        return moves::faulted(s, Status::ADDRESS);
+    if (len as usize) < n {
+        return fault(s, Status::ADDRESS);
     }
     if !erased(flash, block, len) {
-        return moves::faulted(s, Status::CHECK_ERASED);
+        return fault(s, Status::CHECK_ERASED);
     }
     let Reach::At(at) = block.address() else {
-        return moves::faulted(s, Status::ADDRESS);
+        return fault(s, Status::ADDRESS);
     };
-    write(s, flash, at, bytes, len - bytes.len() as u32)
+    write(s, at, 8, n as u32, len - n as u32)
 }
 
 fn read(s: Session, block: Block, len: u32) -> Outcome
@@ -149,20 +129,25 @@ fn check(s: Session, flash: &[u8], block: Block, len: u32) -> Outcome
     moves::faulted(s, Status::CHECK_ERASED)
 }
 
-fn erase(s: Session, flash: &mut [u8], block: Block, count: u32) -> Outcome
-    requires { ⌜ Ready s (now flash) ⌝ }
+// Blocks are as many bytes as lie before the block of their number.
+fn erase(s: Session, block: Block, count: u32) -> Plan
     requires { ⌜ count < 65536 ⌝ }
-    ensures { λ r. ⌜ done r (now (flash .exit)) ≡ eraseOf s (now (flash .entry)) (block .0) count ⌝ }
+    ensures { λ r. ⌜ r ≡ eraseOf s (block .0) count ⌝ }
 {
-    if !session::in_application(s.board, block, count * BLOCK) {
-        return moves::faulted(s, Status::ADDRESS);
+    let Reach::At(size) = Block(count).address() else {
+        return fault(s, Status::ADDRESS);
+    };
+    if !session::in_application(s.board, block, size.0) {
+        return fault(s, Status::ADDRESS);
     }
-    flash::erase(flash, block, count);
-    let end = session::app_end(s.board);
-    let sums = sums::refresh(s.sums, flash, s.board.a, end, block, Block(block.0 + count));
-    let mut t = s;
-    t.sums = sums;
-    moves::taken(moves::sync(t))
+    let o = moves::taken(moves::sync(s));
+    Plan {
+        outcome: o,
+        job: Job::Wipe {
+            first: block,
+            count: count,
+        },
+    }
 }
 
 fn info(s: Session) -> Outcome
@@ -202,33 +187,33 @@ fn well_formed(d: &[u8]) -> bool
     (PROG <= code) & (code <= RESET) & ((code == PROG) | (d.len() == 8))
 }
 
-fn carry_out(s: Session, flash: &mut [u8], d: &[u8]) -> Outcome
+fn by_number(s: Session, flash: &[u8], d: &[u8]) -> Plan
     requires { ⌜ Ready s (now flash) ⌝ }
     requires { ⌜ 8 ≤ length (now d) ⌝ }
-    ensures { λ r. ⌜ done r (now (flash .exit)) ≡ carriedOut (getD (now (d .entry)) 0 0) s (now (flash .entry)) (now (d .entry)) ⌝ }
+    ensures { λ r. ⌜ r ≡ byNumber (getD (now (d .entry)) 0 0) s (now (flash .entry)) (now (d .entry)) ⌝ }
 {
     let code = d[0];
     let block = Block(request::word(d, 2));
     let len = long(d, 4);
     match code {
-        PROG => prog(s, flash, block, len, &d[8..]),
-        READ => read(s, block, len),
-        CHECK => check(s, flash, block, len),
-        ERASE => erase(s, flash, block, request::word(d, 4)),
-        INFO => info(s),
-        BIN => bin(s, d[1]),
-        _ => moves::reset(s),
+        PROG => prog(s, flash, block, len, d.len() - 8),
+        READ => jobs::only(read(s, block, len)),
+        CHECK => jobs::only(check(s, flash, block, len)),
+        ERASE => erase(s, block, request::word(d, 4)),
+        INFO => jobs::only(info(s)),
+        BIN => jobs::only(bin(s, d[1])),
+        _ => jobs::only(moves::reset(s)),
     }
 }
 
-fn command(s: Session, flash: &mut [u8], d: &[u8]) -> Outcome
+fn command(s: Session, flash: &[u8], d: &[u8]) -> Plan
     requires { ⌜ Ready s (now flash) ⌝ }
-    ensures { λ r. ⌜ done r (now (flash .exit)) ≡ commandOf s (now (flash .entry)) (now (d .entry)) ⌝ }
+    ensures { λ r. ⌜ r ≡ commandOf s (now (flash .entry)) (now (d .entry)) ⌝ }
 {
     if !well_formed(d) {
-        return moves::faulted(s, Status::VENDOR);
+        return fault(s, Status::VENDOR);
     }
-    carry_out(s, flash, d)
+    by_number(s, flash, d)
 }
 
 fn close(s: Session) -> Outcome
@@ -240,32 +225,31 @@ fn close(s: Session) -> Outcome
     moves::taken(moves::manifest(s))
 }
 
-fn piece(s: Session, flash: &mut [u8], d: &[u8]) -> Outcome
-    requires { ⌜ Ready s (now flash) ⌝ }
+fn piece(s: Session, n: usize) -> Plan
+    requires { ⌜ fitOf s ≡ true ⌝ }
     requires { ⌜ s .phase .state .0 ≡ 5 ⌝ }
-    ensures { λ r. ⌜ done r (now (flash .exit)) ≡ pieceOf s (now (flash .entry)) (now (d .entry)) ⌝ }
+    ensures { λ r. ⌜ r ≡ pieceOf s n ⌝ }
 {
-    let n = d.len();
     if n == 0 {
-        return close(s);
+        return jobs::only(close(s));
     }
     let left = s.down.left;
     if (left as usize) < n {
-        return moves::faulted(s, Status::ADDRESS);
+        return fault(s, Status::ADDRESS);
     }
     let place = s.down.place;
-    write(s, flash, place, d, left - n as u32)
+    write(s, place, 0, n as u32, left - n as u32)
 }
 
-// A DNLOAD in a state that allows it: a command in idle, a piece in download idle.
-pub fn dnload(s: Session, flash: &mut [u8], d: &[u8]) -> Outcome
+// What a DNLOAD does in a state that allows it: a command in idle, a piece in download idle.
+pub fn dnload(s: Session, flash: &[u8], d: &[u8]) -> Plan
     requires { ⌜ Ready s (now flash) ⌝ }
     requires { ⌜ Loading s ⌝ }
-    ensures { λ r. ⌜ done r (now (flash .exit)) ≡ dnloadOf s (now (flash .entry)) (now (d .entry)) ⌝ }
+    ensures { λ r. ⌜ r ≡ dnloadOf s (now (flash .entry)) (now (d .entry)) ⌝ }
 {
     if s.phase.state.0 == State::IDLE {
         command(s, flash, d)
     } else {
-        piece(s, flash, d)
+        piece(s, d.len())
     }
 }

@@ -1,7 +1,7 @@
 -- A job's single stores leave the flash that it is said to leave, and what can be carried out lies in flash. Assumes nothing.
 use Prim.Native.Nat.{ℕ, _+_, _-_, _≤_}
 use mathlib.Core.List.{List}
-use mathlib.Core.Path.{_≡_, refl, sym, ap, ap₂, subst, _∙_}
+use mathlib.Core.Path.{_≡_, refl, sym, ap, ap₂, subst, subst⁻¹, _∙_}
 use native.Mathlib.Omega.{arith}
 use lib.ListN.{length, take, drop, length-drop}
 use lib.Seq.{take-all}
@@ -33,29 +33,42 @@ place-within board f at n s p = record { inside = omega arith; addressed = omega
 
 -- the flash that a job leaves is that of its single stores
 pub stores-made :
-    (job : Job) (o : Outcome) (board : Board) (f d : List ℕ) → Split f (board .a .0) (appEnd board) → Can job board d
+    (job : Job) (o : Outcome) (board : Board) (f d : List ℕ) → Can job board f d
     → carriedOut job o f d .flash ≡ carried f (storesFor job d)
 unfolding carriedOut storesFor carried bytesDone wipeDone erased
-stores-made Nothing o board f d s can = refl
-stores-made (Bytes at skip) o board f d s can =
-    let w = place-within board f (at .0) (length (drop skip d)) s (can .1) in
+stores-made Nothing o board f d can = refl
+stores-made (Bytes at skip) o board f d can =
+    let w = place-within board f (at .0) (length (drop skip d)) (can .1) (can .2) in
     sym (stores-spliced f (at .0) (drop skip d) (w .inside))
-stores-made (Wipe first count) o board f d s can =
-    let w = place-within board f (startOf (first .0)) (startOf count) s can in
+stores-made (Wipe first count) o board f d can =
+    let w = place-within board f (startOf (first .0)) (startOf count) (can .0) (can .1) in
     sym (stores-spliced f (startOf (first .0)) (blank (startOf count)) (omega (arith, length-blank (startOf count), w .inside)))
 
 -- a part from a place to the end
 pub to-the-end : (n : ℕ) (d : List ℕ) → take (length d - n) (drop n d) ≡ drop n d
 to-the-end n d = take-all (length d - n) (drop n d) (rw length-drop (omega arith))
 
--- what can be carried out, once it is told which job it is
-module _ (job : Job) (board : Board) (d : List ℕ) (can : Can job board d) where
+-- what can be carried out, once it is told which job it is: where its bytes go lies in flash
+module _ (job : Job) (board : Board) (f d : List ℕ) (can : Can job board f d) where
   pub can-bytes :
-      (at : Addr) (skip : ℕ) → job ≡ Bytes at skip → (skip ≤ length d) × Place board (at .0) (length (drop skip d))
-  can-bytes at skip e = subst (λ (j : Job). Can j board d) e can
+      (at : Addr) (skip : ℕ) → job ≡ Bytes at skip
+      → (skip ≤ length d)
+      × Split f (board .a .0) (appEnd board)
+      × Place board (at .0) (length (drop skip d))
+      × Within f (at .0) (length (take (length d - skip) (drop skip d)))
+  can-bytes at skip e =
+      let c = subst (λ (j : Job). Can j board f d) e can in
+      let w = place-within board f (at .0) (length (drop skip d)) (c .1) (c .2) in
+      (c .0, c .1, c .2, subst⁻¹ (λ (x : List ℕ). Within f (at .0) (length x)) (to-the-end skip d) w)
 
-  pub can-wipe : (first : Block) (count : ℕ) → job ≡ Wipe first count → Place board (startOf (first .0)) (startOf count)
-  can-wipe first count e = subst (λ (j : Job). Can j board d) e can
+  pub can-wipe :
+      (first : Block) (count : ℕ) → job ≡ Wipe first count
+      → Split f (board .a .0) (appEnd board)
+      × Place board (startOf (first .0)) (startOf count)
+      × Within f (startOf (first .0)) (startOf count)
+  can-wipe first count e =
+      let c = subst (λ (j : Job). Can j board f d) e can in
+      (c .0, c .1, place-within board f (startOf (first .0)) (startOf count) (c .0) (c .1))
 
 -- what each arm leaves, from what its calls answer
 module _ (job : Job) (o : Outcome) (f d g : List ℕ) (sums : Sums) (r : Outcome) (e : r ≡ summed o sums) where

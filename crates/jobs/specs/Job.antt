@@ -32,11 +32,13 @@ pub record Place (board : Board) (at n : ℕ) : Type 0 where
   pub low : startOf (board .a .0) ≤ at
   pub high : at + n ≤ startOf (appEnd board)
 
--- a job that can be carried out: what it stores lies in the application
-abbrev pub Can : Job → Board → List ℕ → Type 0
-Can Nothing board d = Unit
-Can (Bytes at skip) board d = (skip ≤ length d) × Place board (at .0) (length (drop skip d))
-Can (Wipe first count) board d = Place board (startOf (first .0)) (startOf count)
+-- a job that can be carried out: what it stores lies in the application, and the application in flash
+abbrev pub Can : Job → Board → List ℕ → List ℕ → Type 0
+Can Nothing board flash d = Unit
+Can (Bytes at skip) board flash d =
+    (skip ≤ length d) × Split flash (board .a .0) (appEnd board) × Place board (at .0) (length (drop skip d))
+Can (Wipe first count) board flash d =
+    Split flash (board .a .0) (appEnd board) × Place board (startOf (first .0)) (startOf count)
 
 -- the single stores of a job, the first of them first
 unfoldable pub storesFor : Job → List ℕ → List Store

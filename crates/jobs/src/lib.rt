@@ -74,8 +74,7 @@ fn with_sums(o: Outcome, sums: Sums) -> Outcome
 
 // The one function above `flash` that is lent flash to be changed.
 pub fn carry_out(plan: Plan, flash: &mut [u8], d: &[u8]) -> Outcome
-    requires { ⌜ Split (now flash) (plan .outcome .session .board .a .0) (appEnd (plan .outcome .session .board)) ⌝ }
-    requires { ⌜ Can (plan .job) (plan .outcome .session .board) (now d) ⌝ }
+    requires { ⌜ Can (plan .job) (plan .outcome .session .board) (now flash) (now d) ⌝ }
     ensures { λ r. ⌜ done r (now (flash .exit)) ≡ carriedOut (plan .job) (plan .outcome) (now (flash .entry)) (now (d .entry)) ⌝ }
 {
     let o = plan.outcome;

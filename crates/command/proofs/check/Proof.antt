@@ -1,6 +1,6 @@
 -- Each answer by the tests that led to it. Assumes nothing.
 use mathlib.Core.Path.{ap, _∙_}
-use Rattle.command.proofs.Picks.{yes-is, no-is, refused, passed, told}
+use Rattle.jobs.proofs.Picks.{yes-is, no-is, refused, passed, told}
 use Rattle.command.specs.Download.{checkOf}
 use Rattle.moves.specs.Moves.{takenOf}
 use Rattle.command.proofs.Laws.{ready-range}

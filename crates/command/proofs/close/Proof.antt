@@ -1,7 +1,7 @@
 -- By whether bytes are missing. Assumes nothing.
 use mathlib.Core.Path.{ap, _∙_}
 use borrow.Author.Tests.{eq-eqb, ne-eqb}
-use Rattle.command.proofs.Picks.{yes-is, no-is}
+use Rattle.jobs.proofs.Picks.{yes-is, no-is}
 use Rattle.command.specs.Download.{closedOf}
 use Rattle.moves.specs.Moves.{takenOf}
 use borrow.Author.Needs.{needs}

@@ -1,54 +1,50 @@
--- A range of the application lies in flash; what the calls answer makes up the definition (Laws). Assumes nothing.
-use Prim.Native.Nat.{_*_}
-use mathlib.Core.Path.{refl, _∙_}
+-- A count of 16 bits is in reach; the rest by whether the range lies in the application. Assumes nothing.
+use Prim.Native.Nat.{ℕ}
+use mathlib.Core.Path.{_≡_, ap, _∙_}
 use native.Mathlib.Omega.{arith}
-use Rattle.command.proofs.Picks.{yes-is, no-is, refused, passed}
-use Rattle.command.proofs.Laws.{ready-split, ready-place, ready-range, same-refresh, wiped, done-over}
+use Rattle.flash.proofs.Reaching.{reached, unreached}
+use Rattle.session.specs.Rules.{inApplication}
+use Rattle.moves.specs.declared.Outcome.{Outcome}
+use Rattle.moves.specs.Moves.{takenOf}
+use Rattle.jobs.specs.Job.{planOf, wipeOf}
+use Rattle.jobs.proofs.Picks.{yes-is, no-is, refused, passed}
 use Rattle.command.specs.Download.{eraseOf}
 use borrow.Author.Needs.{needs}
 use Rattle.command.proofs.erase.Statement.{statement}
 use Rattle.command.proofs.erase.Tie as tie
 
-mul-in-application : tie.Need-mul-in-application
-mul-in-application c = search needs
+address-requires : tie.Need-address-requires
+address-requires c κs = search needs
+
+enum-known-size : tie.Need-enum-known-size
+enum-known-size c = search needs
+
+enum-told : tie.Need-enum-told
+enum-told c = search needs
+
+fault-requires : tie.Need-fault-requires
+fault-requires c κs = search needs
+
+returns : tie.Need-returns
+returns c =
+    let s = c .before .before .before .before in
+    absurd (unreached (s .args .count) _ (c .before .enum-told .given .1) (c .before .before .before .address .ensures) (omega (arith, s .pre)))
 
 in-application-requires : tie.Need-in-application-requires
 in-application-requires c κs = search needs
 
-faulted-requires : tie.Need-faulted-requires
-faulted-requires c κs = search needs
+fault-requires-2 : tie.Need-fault-requires-2
+fault-requires-2 c κs = search needs
 
-returns : tie.Need-returns
+returns-2 : tie.Need-returns-2
 unfolding eraseOf
-returns c = no-is _ _ _ _ (refused _ _ (c .before .before .in-application .ensures) (c .before .if1 .taken)) (done-over (c .before .before .before .before .args .flash .now) (c .faulted .ensures))
-
-erase-requires : tie.Need-erase-requires
-erase-requires c κs =
-    let s = c .before .before .before .before in
-    let w = ready-range _ _ (s .pre .0) (s .args .block .0) (s .args .count * 1024) (passed _ _ (c .before .before .in-application .ensures) (c .before .if1 .left)) in
-    record { inside = omega (arith, w .inside); addressed = omega (arith, w .addressed) }
-
-app-end-requires : tie.Need-app-end-requires
-app-end-requires c κs = search needs
-
-add-t9 : tie.Need-add-t9
-add-t9 c =
-    let i = c .before .before .before .before .before .before .before in
-    let s = i .before .before .before in
-    let w = ready-range _ _ (s .pre .0) (s .args .block .0) (s .args .count * 1024) (passed _ _ (i .before .in-application .ensures) (i .if1 .left)) in
-    omega (arith, w .addressed)
-
-refresh-requires : tie.Need-refresh-requires
-refresh-requires c κs =
-    let i = c .before .before .before .before .before .before .before in
-    let s = i .before .before .before in
-    let a = c .before .before .app-end .ensures in
-    let g = ready-split _ _ (s .pre .0) in
-    let p = ready-place _ _ (s .pre .0) (s .args .block .0) (s .args .count * 1024) (passed _ _ (i .before .in-application .ensures) (i .if1 .left)) in
-    let k = c .before .before .before .before .before .erase .kept .0 in (
-      record { ordered = omega (arith, a, g .ordered); counted = omega (arith, a, g .counted); inside = omega (arith, a, g .inside, k) },
-      (omega arith, omega (arith, a, p .high)),
-    )
+returns-2 c =
+    let i = c .before .before in
+    let k = i .before .before in
+    let s = k .before .before .before in
+    let e = reached (s .args .count) _ _ (k .size .given .1) (k .before .before .address .ensures) in
+    let told = i .in-application .ensures ∙ ap (inApplication (s .args .s .board) (s .args .block .0)) e in
+    no-is _ _ _ _ (refused _ _ told (c .before .if1 .taken)) (c .fault2 .ensures)
 
 sync-requires : tie.Need-sync-requires
 sync-requires c κs = search needs
@@ -56,31 +52,29 @@ sync-requires c κs = search needs
 taken-requires : tie.Need-taken-requires
 taken-requires c κs = search needs
 
-same-length : tie.Need-same-length
-same-length c = search needs
-
-returns-2 : tie.Need-returns-2
+returns-3 : tie.Need-returns-3
 unfolding eraseOf
-returns-2 c =
-    let m = c .before .before in
-    let i = m .before .before .before .before .before .before .before .before in
-    yes-is _ _ _ _ (passed _ _ (i .before .in-application .ensures) (i .if1 .left))
-    (wiped _ _ _ _ _ _ _ _ (m .before .before .before .before .before .before .erase .ensures)
-    (m .refresh .ensures ∙ same-refresh _ _ _ (m .before .before .before .app-end .ensures) refl refl) (c .before .sync .ensures) (c .taken .ensures))
+returns-3 c =
+    let i = c .before .before .before in
+    let k = i .before .before in
+    let s = k .before .before .before in
+    let e = reached (s .args .count) _ _ (k .size .given .1) (k .before .before .address .ensures) in
+    let told = i .in-application .ensures ∙ ap (inApplication (s .args .s .board) (s .args .block .0)) e in
+    yes-is _ _ _ _ (passed _ _ told (c .before .before .if1 .left))
+    (ap (λ (o : Outcome). planOf o (wipeOf (s .args .block .0) (s .args .count))) (c .taken .ensures ∙ ap takenOf (c .before .sync .ensures)))
 
 pub erase-spec : {M : Type 1} → statement M
 erase-spec =
     tie.close
     (tie.spec
-    mul-in-application
-    in-application-requires
-    faulted-requires
+    address-requires
+    enum-known-size
+    enum-told
+    fault-requires
     returns
-    erase-requires
-    app-end-requires
-    add-t9
-    refresh-requires
+    in-application-requires
+    fault-requires-2
+    returns-2
     sync-requires
     taken-requires
-    same-length
-    returns-2)
+    returns-3)

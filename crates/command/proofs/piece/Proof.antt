@@ -1,13 +1,17 @@
 -- A running download has its place in the application. Assumes nothing.
-use mathlib.Core.Path.{_≡_}
+use mathlib.Core.Path.{ap, _∙_}
+use mathlib.Core.Logic.{inl}
 use native.Mathlib.Omega.{arith}
 use borrow.Author.Tests.{le-leb, lt-leb, eq-eqb, ne-eqb}
-use Rattle.command.proofs.Picks.{yes-is, no-is}
-use Rattle.command.proofs.Laws.{done-over}
-use Rattle.command.specs.Download.{pieceOf}
 use mathlib.Core.Bool.{true}
+use mathlib.Core.Path.{_≡_}
 use Rattle.session.specs.Rules.{running}
-use Rattle.session.proofs.Laws.{fit-facts}
+use Rattle.session.proofs.Laws.{fit-facts, fit-kept, split-facts, end-in-flash}
+use Rattle.moves.specs.declared.Outcome.{Outcome}
+use Rattle.jobs.specs.declared.Job.{Job}
+use Rattle.jobs.specs.Job.{planOf}
+use Rattle.jobs.proofs.Picks.{yes-is, no-is}
+use Rattle.command.specs.Download.{pieceOf}
 use borrow.Author.Needs.{needs}
 use Rattle.command.proofs.piece.Statement.{statement}
 use Rattle.command.proofs.piece.Tie as tie
@@ -15,58 +19,63 @@ use Rattle.command.proofs.piece.Tie as tie
 close-requires : tie.Need-close-requires
 close-requires c κs = search needs
 
+only-requires : tie.Need-only-requires
+only-requires c κs = search needs
+
 returns : tie.Need-returns
 unfolding pieceOf
-returns c = yes-is _ _ _ _ (eq-eqb _ _ (c .before .if1 .taken)) (done-over (c .before .before .before .before .args .flash .now) (c .close .ensures))
+returns c =
+    yes-is _ _ _ _ (eq-eqb _ _ (c .before .before .if1 .taken))
+    (c .only .ensures ∙ ap (λ (o : Outcome). planOf o Job.Nothing) (c .before .close .ensures))
 
 cast-if2 : tie.Need-cast-if2
 cast-if2 c = search needs
 
-faulted-requires : tie.Need-faulted-requires
-faulted-requires c κs = search needs
+fault-requires : tie.Need-fault-requires
+fault-requires c κs = search needs
 
 returns-2 : tie.Need-returns-2
 unfolding pieceOf
 returns-2 c =
-    let i = c .before .before in
-    no-is _ _ _ _ (ne-eqb _ _ (i .if1 .left)) (no-is _ _ _ _ (lt-leb _ _ (c .before .if2 .taken)) (done-over (i .before .before .before .args .flash .now) (c .faulted .ensures)))
+    no-is _ _ _ _ (ne-eqb _ _ (c .before .before .if1 .left)) (no-is _ _ _ _ (lt-leb _ _ (c .before .if2 .taken)) (c .fault .ensures))
 
 cast-write : tie.Need-cast-write
 cast-write c = search needs
+
+cast-write-2 : tie.Need-cast-write-2
+cast-write-2 c = search needs
 
 sub-write : tie.Need-sub-write
 sub-write c = search needs
 
 write-requires : tie.Need-write-requires
 write-requires c κs =
-    let t = c .before .before in
-    let s = t .before .before .before .before in
-    let f = fit-facts _ (s .pre .0 .fit) in
+    let t = c .before in
+    let s = t .before .before in
+    let f = fit-facts (s .args .s) (s .pre .0) in
+    let k = split-facts (s .args .s .board) (fit-kept (s .args .s) (s .pre .0) .split) in
+    let ends = end-in-flash (s .args .s .board) in
     let r : running (s .args .s .phase) ≡ true = rw (s .pre .1) in
-    (s .pre .0, record { low = f .place-from r; high = omega (arith, f .left-to r, t .if2 .left) })
-
-same-length : tie.Need-same-length
-same-length c = search needs
+    omega (arith, f .left-to r, t .if2 .left, k, ends)
 
 returns-3 : tie.Need-returns-3
 unfolding pieceOf
 returns-3 c =
-    let w = c .before .before in
-    let t = w .before .before .before in
-    let i = t .before in
-    no-is _ _ _ _ (ne-eqb _ _ (i .if1 .left)) (yes-is _ _ _ _ (le-leb _ _ (t .if2 .left)) (w .write .ensures))
+    let t = c .before .before in
+    no-is _ _ _ _ (ne-eqb _ _ (t .before .if1 .left)) (yes-is _ _ _ _ (le-leb _ _ (t .if2 .left)) (c .write .ensures))
 
 pub piece-spec : {M : Type 1} → statement M
 piece-spec =
     tie.close
     (tie.spec
     close-requires
+    only-requires
     returns
     cast-if2
-    faulted-requires
+    fault-requires
     returns-2
     cast-write
+    cast-write-2
     sub-write
     write-requires
-    same-length
     returns-3)

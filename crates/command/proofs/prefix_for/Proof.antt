@@ -1,7 +1,7 @@
 -- By the byte. Assumes nothing.
 use mathlib.Core.Path.{refl}
 use borrow.Author.Tests.{eq-eqb, ne-eqb}
-use Rattle.command.proofs.Picks.{yes-is, no-is}
+use Rattle.jobs.proofs.Picks.{yes-is, no-is}
 use Rattle.command.specs.Download.{prefixFor}
 use Rattle.command.proofs.prefix_for.Statement.{statement}
 use Rattle.command.proofs.prefix_for.Tie as tie

@@ -1,6 +1,6 @@
 -- Each answer by the tests that led to it. Assumes nothing.
 use mathlib.Core.Path.{ap, _∙_}
-use Rattle.command.proofs.Picks.{yes-is, no-is, refused, passed}
+use Rattle.jobs.proofs.Picks.{yes-is, no-is, refused, passed}
 use Rattle.command.specs.Download.{readOf}
 use Rattle.moves.specs.Moves.{movedTo, takenOf}
 use borrow.Author.Needs.{needs}

@@ -1,29 +1,15 @@
--- The range lies in flash, and so the calls below can be made; what they answer makes up the definition (Laws). Assumes nothing.
-use native.Mathlib.Omega.{arith}
-use Rattle.command.proofs.Laws.{ready-split, ready-within, wrote}
+-- The outcome with its job. Assumes nothing.
+use mathlib.Core.Path.{ap, _∙_}
+use Rattle.moves.specs.declared.Outcome.{Outcome}
+use Rattle.moves.specs.Moves.{takenOf}
+use Rattle.jobs.specs.Job.{planOf, bytesTo}
+use Rattle.command.specs.Download.{wroteOf}
 use borrow.Author.Needs.{needs}
 use Rattle.command.proofs.write.Statement.{statement}
 use Rattle.command.proofs.write.Tie as tie
 
-cast-n : tie.Need-cast-n
-cast-n c = let w = ready-within _ _ (c .before .before .pre .0) _ _ (c .before .before .pre .1) in omega arith
-
-program-requires : tie.Need-program-requires
-program-requires c κs = ready-within _ _ (c .before .before .before .pre .0) _ _ (c .before .before .before .pre .1)
-
-sums-after-requires : tie.Need-sums-after-requires
-sums-after-requires c κs =
-    let s = c .before .before .before .before .before .before .before in
-    let g = ready-split _ _ (s .pre .0) in (
-      record { ordered = g .ordered; counted = g .counted; inside = omega (arith, g .inside, c .before .before .before .program .kept .0) },
-      record { low = s .pre .1 .low; high = omega (arith, s .pre .1 .high) },
-    )
-
-add-t16 : tie.Need-add-t16
-add-t16 c =
-    let s = c .before .before .before .before .before .before .before .before .before in
-    let w = ready-within _ _ (s .pre .0) _ _ (s .pre .1) in
-    omega arith
+add-t8 : tie.Need-add-t8
+add-t8 c = search needs
 
 moved-requires : tie.Need-moved-requires
 moved-requires c κs = search needs
@@ -31,23 +17,11 @@ moved-requires c κs = search needs
 taken-requires : tie.Need-taken-requires
 taken-requires c κs = search needs
 
-same-length : tie.Need-same-length
-same-length c = search needs
-
 returns : tie.Need-returns
+unfolding wroteOf
 returns c =
-    let a = c .before .before .before in
-    wrote _ _ _ _ _ _ _ _ _ (a .before .before .before .before .program .ensures) (a .sums-after .ensures) (c .before .moved .ensures) (c .taken .ensures)
+    let s = c .before .before .before in
+    ap (λ (o : Outcome). planOf o (bytesTo (s .args .at .0) (s .args .skip))) (c .taken .ensures ∙ ap takenOf (c .before .moved .ensures))
 
 pub write-spec : {M : Type 1} → statement M
-write-spec =
-    tie.close
-    (tie.spec
-    cast-n
-    program-requires
-    sums-after-requires
-    add-t16
-    moved-requires
-    taken-requires
-    same-length
-    returns)
+write-spec = tie.close (tie.spec add-t8 moved-requires taken-requires returns)

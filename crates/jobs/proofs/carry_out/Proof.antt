@@ -4,7 +4,7 @@ use native.Mathlib.Omega.{arith}
 use lib.ListN.{length}
 use Rattle.jobs.specs.declared.Job.{Job}
 use Rattle.jobs.specs.Job.{sumsWiped, carriedOut}
-use Rattle.jobs.proofs.Laws.{same-refresh, place-within, to-the-end, can-bytes, can-wipe, bytes-left, wipe-left}
+use Rattle.jobs.proofs.Laws.{same-refresh, to-the-end, can-bytes, can-wipe, bytes-left, wipe-left}
 use borrow.Author.Needs.{needs}
 use Rattle.jobs.proofs.carry_out.Statement.{statement}
 use Rattle.jobs.proofs.carry_out.Tie as tie
@@ -24,7 +24,7 @@ sub-bytes c =
     let k = m .before .before in
     let s = k .before .before .before .before .before in
     let told = m .job .given in
-    let can = can-bytes _ _ (s .args .d .now) (s .pre .1) (told .0 .0) (told .0 .1 .0) (told .1) in
+    let can = can-bytes _ _ (s .args .flash .now) (s .args .d .now) (s .pre) (told .0 .0) (told .0 .1 .0) (told .1) in
     can .0
 
 part-bytes-start : tie.Need-part-bytes-start
@@ -33,7 +33,7 @@ part-bytes-start c =
     let k = m .before .before in
     let s = k .before .before .before .before .before in
     let told = m .job .given in
-    let can = can-bytes _ _ (s .args .d .now) (s .pre .1) (told .0 .0) (told .0 .1 .0) (told .1) in
+    let can = can-bytes _ _ (s .args .flash .now) (s .args .d .now) (s .pre) (told .0 .0) (told .0 .1 .0) (told .1) in
     can .0
 
 part-bytes-end : tie.Need-part-bytes-end
@@ -45,10 +45,8 @@ program-requires c κs =
     let k = m .before .before in
     let s = k .before .before .before .before .before in
     let told = m .job .given in
-    let can = can-bytes _ _ (s .args .d .now) (s .pre .1) (told .0 .0) (told .0 .1 .0) (told .1) in
-    let w = place-within _ (s .args .flash .now) _ _ (s .pre .0) (can .1) in
-    let long = ap length (to-the-end (told .0 .1 .0) (s .args .d .now)) in
-    record { inside = omega (arith, w .inside, long); addressed = omega (arith, w .addressed, long) }
+    let can = can-bytes _ _ (s .args .flash .now) (s .args .d .now) (s .pre) (told .0 .0) (told .0 .1 .0) (told .1) in
+    can .3
 
 cast-n : tie.Need-cast-n
 cast-n c =
@@ -57,10 +55,8 @@ cast-n c =
     let k = m .before .before in
     let s = k .before .before .before .before .before in
     let told = m .job .given in
-    let can = can-bytes _ _ (s .args .d .now) (s .pre .1) (told .0 .0) (told .0 .1 .0) (told .1) in
-    let w = place-within _ (s .args .flash .now) _ _ (s .pre .0) (can .1) in
-    let long = ap length (to-the-end (told .0 .1 .0) (s .args .d .now)) in
-    record { fits = omega (arith, w .addressed, long) }
+    let can = can-bytes _ _ (s .args .flash .now) (s .args .d .now) (s .pre) (told .0 .0) (told .0 .1 .0) (told .1) in
+    record { fits = omega (arith, can .3 .addressed) }
 
 sums-after-requires : tie.Need-sums-after-requires
 sums-after-requires c κs =
@@ -69,13 +65,12 @@ sums-after-requires c κs =
     let k = m .before .before in
     let s = k .before .before .before .before .before in
     let told = m .job .given in
-    let can = can-bytes _ _ (s .args .d .now) (s .pre .1) (told .0 .0) (told .0 .1 .0) (told .1) in
-    let w = place-within _ (s .args .flash .now) _ _ (s .pre .0) (can .1) in
-    let long = ap length (to-the-end (told .0 .1 .0) (s .args .d .now)) in
-    let split = s .pre .0 in
-    let kept = c .before .before .before .program .kept .0 in (
+    let can = can-bytes _ _ (s .args .flash .now) (s .args .d .now) (s .pre) (told .0 .0) (told .0 .1 .0) (told .1) in
+    let split = can .1 in
+    let kept = c .before .before .before .program .kept .0 in
+    let long = ap length (to-the-end (told .0 .1 .0) (s .args .d .now)) in (
       record { ordered = split .ordered; counted = split .counted; inside = omega (arith, split .inside, kept) },
-      record { low = can .1 .low; high = omega (arith, can .1 .high, long) },
+      record { low = can .2 .low; high = omega (arith, can .2 .high, long) },
     )
 
 with-sums-requires : tie.Need-with-sums-requires
@@ -90,9 +85,8 @@ erase-requires c κs =
     let k = m .before .before in
     let s = k .before .before .before .before .before in
     let told = m .job2 .given in
-    let can = can-wipe _ _ (s .args .d .now) (s .pre .1) (told .0 .0) (told .0 .1 .0) (told .1) in
-    let w = place-within _ (s .args .flash .now) _ _ (s .pre .0) can in
-    w
+    let can = can-wipe _ _ (s .args .flash .now) (s .args .d .now) (s .pre) (told .0 .0) (told .0 .1 .0) (told .1) in
+    can .2
 
 add-t30 : tie.Need-add-t30
 add-t30 c =
@@ -101,9 +95,8 @@ add-t30 c =
     let k = m .before .before in
     let s = k .before .before .before .before .before in
     let told = m .job2 .given in
-    let can = can-wipe _ _ (s .args .d .now) (s .pre .1) (told .0 .0) (told .0 .1 .0) (told .1) in
-    let w = place-within _ (s .args .flash .now) _ _ (s .pre .0) can in
-    record { fits = omega (arith, w .addressed) }
+    let can = can-wipe _ _ (s .args .flash .now) (s .args .d .now) (s .pre) (told .0 .0) (told .0 .1 .0) (told .1) in
+    record { fits = omega (arith, can .2 .addressed) }
 
 app-end-requires : tie.Need-app-end-requires
 app-end-requires c κs = search needs
@@ -115,17 +108,16 @@ refresh-requires c κs =
     let k = m .before .before in
     let s = k .before .before .before .before .before in
     let told = m .job2 .given in
-    let can = can-wipe _ _ (s .args .d .now) (s .pre .1) (told .0 .0) (told .0 .1 .0) (told .1) in
-    let w = place-within _ (s .args .flash .now) _ _ (s .pre .0) can in
-    let split = s .pre .0 in
-    let kept = c .before .before .before .before .before .erase .kept .0 in
+    let can = can-wipe _ _ (s .args .flash .now) (s .args .d .now) (s .pre) (told .0 .0) (told .0 .1 .0) (told .1) in
+    let split = can .0 in
+    let kept = later .erase .kept .0 in
     let end = c .before .app-end .ensures in (
       record {
         ordered = omega (arith, end, split .ordered);
         counted = omega (arith, end, split .counted);
         inside = omega (arith, end, split .inside, kept);
       },
-      (omega arith, omega (arith, end, can .high)),
+      (omega arith, omega (arith, end, can .1 .high)),
     )
 
 with-sums-requires-2 : tie.Need-with-sums-requires-2
@@ -149,8 +141,8 @@ returns-2 c =
     let s = k .before .before .before .before .before in
     let told = m .job .given in
     let d = s .args .d .now in
-    bytes-left (s .args .plan .job) (s .args .plan .outcome) (s .args .flash .now) d _ _ _ (c .with-sums .ensures) (told .0 .0) (told .0 .1 .0) _
-    (told .1) (to-the-end (told .0 .1 .0) d) (c .before .before .before .before .before .program .ensures) (c .before .sums-after .ensures)
+    bytes-left (s .args .plan .job) (s .args .plan .outcome) (s .args .flash .now) d _ _ _ (c .with-sums .ensures)
+    (told .0 .0) (told .0 .1 .0) _ (told .1) (to-the-end (told .0 .1 .0) d) (later .program .ensures) (c .before .sums-after .ensures)
 
 same-length-2 : tie.Need-same-length-2
 same-length-2 c = search needs
@@ -163,8 +155,8 @@ returns-3 c =
     let k = m .before .before in
     let s = k .before .before .before .before .before in
     let told = m .job2 .given in
-    wipe-left (s .args .plan .job) (s .args .plan .outcome) (s .args .flash .now) (s .args .d .now) _ _ _ (c .with-sums2 .ensures) (told .0 .0)
-    (told .0 .1 .0) (told .1) (later .before .before .erase .ensures)
+    wipe-left (s .args .plan .job) (s .args .plan .outcome) (s .args .flash .now) (s .args .d .now) _ _ _ (c .with-sums2 .ensures)
+    (told .0 .0) (told .0 .1 .0) (told .1) (later .before .before .erase .ensures)
     (c .before .refresh .ensures ∙ same-refresh _ _ _ (c .before .before .before .app-end .ensures) refl refl)
 
 pub carry-out-spec : {M : Type 1} → statement M

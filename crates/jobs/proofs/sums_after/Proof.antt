@@ -41,7 +41,8 @@ returns-2 c =
     let i = e .before .before .before in
     let n = i .if1 .left in
     no-is _ _ _ _ (ne-eqb _ _ n)
-    (c .refresh .ensures ∙ same-refresh _ _ _ (e .app-end .ensures) (c .before .before .holder2 .ensures) (omega (arith, n, e .before .holder .ensures)))
+    (c .refresh .ensures
+    ∙ same-refresh _ _ _ (e .app-end .ensures) (c .before .before .holder2 .ensures) (omega (arith, n, e .before .holder .ensures)))
 
 pub sums-after-spec : {M : Type 1} → statement M
 sums-after-spec =

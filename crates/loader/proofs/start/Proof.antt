@@ -1,6 +1,6 @@
 -- An allowed start has an application that lies in its flash (Laws). Assumes nothing.
 use mathlib.Core.Path.{refl, ap, _∙_}
-use Rattle.command.proofs.Picks.{yes-is, no-is, refused, passed}
+use Rattle.jobs.proofs.Picks.{yes-is, no-is, refused, passed}
 use Rattle.loader.proofs.Laws.{start-ground, start-split}
 use Rattle.loader.specs.Step.{startOutcome, freshStart}
 use Rattle.sums.specs.Sum.{freshSums}

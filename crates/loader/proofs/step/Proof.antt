@@ -2,7 +2,7 @@
 use lib.ListN.{length}
 use mathlib.Core.Path.{sym, ap, ap₂, _∙_}
 use native.Mathlib.Omega.{arith}
-use Rattle.command.proofs.Picks.{yes-is, no-is, refused, passed}
+use Rattle.jobs.proofs.Picks.{yes-is, no-is, refused, passed}
 use Rattle.loader.proofs.Laws.{ready-fit, ready-room}
 use Rattle.loader.specs.Step.{stepOf, served}
 use Prim.Native.Nat.{ℕ}

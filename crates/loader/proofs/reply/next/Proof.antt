@@ -1,7 +1,7 @@
 -- By the state. Assumes nothing.
 use Prim.Native.Nat.{ℕ}
 use lib.Dec.{eqb}
-use Rattle.command.proofs.Picks.{yes-is, no-is}
+use Rattle.jobs.proofs.Picks.{yes-is, no-is}
 use mathlib.Core.Path.{refl, ap}
 use borrow.Author.Tests.{eq-eqb, ne-eqb}
 use Rattle.loader.specs.Reply.{entered}

@@ -1,7 +1,7 @@
 -- By the state. Assumes nothing.
 use mathlib.Core.Path.{refl}
 use borrow.Author.Tests.{eq-eqb, ne-eqb}
-use Rattle.command.proofs.Picks.{yes-is, no-is}
+use Rattle.jobs.proofs.Picks.{yes-is, no-is}
 use Rattle.loader.specs.Upload.{placeOf}
 use Rattle.loader.proofs.upload.place.Statement.{statement}
 use Rattle.loader.proofs.upload.place.Tie as tie

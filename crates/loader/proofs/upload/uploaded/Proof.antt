@@ -1,7 +1,7 @@
 -- By whether the answer ends the upload. Assumes nothing.
 use mathlib.Core.Path.{ap, _∙_}
 use Prim.Native.Nat.{ℕ, _+_}
-use Rattle.command.proofs.Picks.{yes-is, no-is, told}
+use Rattle.jobs.proofs.Picks.{yes-is, no-is, told}
 use Rattle.loader.specs.Upload.{uploadedOf, uploadingAt}
 use borrow.Author.Needs.{needs}
 use Rattle.loader.proofs.upload.uploaded.Statement.{statement}
