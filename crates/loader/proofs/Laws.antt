@@ -4,12 +4,12 @@ use Prim.Native.Nat.{ℕ, _+_, _≤_, _<_, _^_}
 use mathlib.Core.Bool.{Bool, true, not, _&&_}
 use mathlib.Core.List.{List, _++_}
 use mathlib.Core.Logic.{inl, inr, ⊎-elim}
-use mathlib.Core.Path.{_≡_, sym, ap, ap₂, _∙_}
+use mathlib.Core.Path.{_≡_, sym, ap, ap₂, subst⁻¹, _∙_}
 use native.Mathlib.Omega.{arith}
 use borrow.Author.Tests.{eqb-true, leb-true}
 use lib.Dec.{eqb, leb}
 use lib.ListN.{length, drop}
-use Rattle.flash.specs.Flash.{startOf}
+use Rattle.flash.specs.Flash.{startOf, carried}
 use Rattle.sums.specs.Sum.{Split}
 use Rattle.session.specs.Codes.{idle, downloadIdle, uploadIdle}
 use Rattle.session.specs.Session.{appEnd, streamLength}
@@ -18,16 +18,22 @@ use Rattle.session.specs.declared.Board.{Board}
 use Rattle.session.specs.declared.Session.{Session}
 use Rattle.session.proofs.Laws.{fit-facts, split-facts, end-in-flash, end-after-start, stream-most}
 use Rattle.session.proofs.Tests.{left-of, right-of, either, pick-most}
-use Rattle.request.specs.Request.{dataAsked, allowedOf}
+use Rattle.request.specs.Request.{requestOf, wLength, dataAsked, allowedOf}
 use Rattle.request.specs.declared.Request.{Request}
 use Rattle.stream.proofs.Laws.{next-length}
 use Rattle.moves.specs.declared.Answer.{Answer}
 use Rattle.moves.specs.declared.Outcome.{Outcome}
-use Rattle.moves.specs.Answers.{outcome, replied, leaves, Replied, Done, Leaves}
+use Rattle.moves.specs.Answers.{Done, Replied, outcome, done, replied, leaves}
+use Rattle.jobs.specs.declared.Plan.{Plan}
+use Rattle.jobs.specs.declared.Job.{Job}
+use Rattle.jobs.specs.Job.{planOf, Can, carriedOut}
+use Rattle.jobs.proofs.Laws.{stores-made}
 use Rattle.command.specs.Ready.{Ready, Loading}
+use Rattle.command.specs.Download.{dnloadOf}
+use Rattle.command.proofs.Laws.{pick, dnload-can}
 use Rattle.loader.specs.Reply.{answered}
 use Rattle.loader.specs.Upload.{placeOf, answerOf}
-use Rattle.loader.specs.Step.{startable, ready, served, withReply, withFlash}
+use Rattle.loader.specs.Step.{startable, ready, Decided, decided, only, answers, served, decidedOf, withReply, settled, stepOf, storesOf}
 
 -- an answer of n bytes
 pub answered-by : (s : Session) (bytes before after : List ℕ) (n : ℕ) → n ≡ length bytes → after ≡ bytes ++ drop (length bytes) before → replied (outcome Answer.Taken n s) after ≡ answered s bytes before
@@ -105,16 +111,66 @@ allowed-loading s asked e =
           (either (eqb (s .phase .state .0) idle && not (eqb asked 0)) (eqb (s .phase .state .0) downloadIdle) e);
     }
 
--- a request that is told leaves what that request leaves: by its reply over a flash that stays, or by its outcome alone
-module _ (r q : Request) (s : Session) (f : List ℕ) (n : ℕ) (d b : List ℕ) (told : r ≡ q) where
-  as-told : (l : Leaves) → l ≡ served q s f n d b → l ≡ served r s f n d b
-  as-told l e = e ∙ sym (ap (λ (x : Request). served x s f n d b) told)
+-- a request that is told is served as that request
+pub as-told :
+    (r q : Request) (s : Session) (f : List ℕ) (n : ℕ) (d b : List ℕ) (x : Decided) → r ≡ q → x ≡ served q s f n d b
+    → x ≡ served r s f n d b
+as-told r q s f n d b x told e = e ∙ sym (ap (λ (y : Request). served y s f n d b) told)
 
-  pub told-reply : (x y : Replied) → x ≡ y → withFlash y f ≡ served q s f n d b → withFlash x f ≡ served r s f n d b
-  told-reply x y e p = as-told (withFlash x f) (ap (λ (z : Replied). withFlash z f) e ∙ p)
+-- an outcome alone, from its calls
+pub only-told : (p : Plan) (o w : Outcome) (b : List ℕ) → p ≡ planOf o Job.Nothing → o ≡ w → decided p b ≡ only w b
+only-told p o w b e q = ap (λ (y : Plan). decided y b) (e ∙ ap (λ (y : Outcome). planOf y Job.Nothing) q)
 
-  pub told-outcome : (x y : Outcome) → x ≡ y → leaves y f b ≡ served q s f n d b → leaves x f b ≡ served r s f n d b
-  told-outcome x y e p = as-told (leaves x f b) (ap (λ (z : Outcome). leaves z f b) e ∙ p)
+-- an outcome with a reply
+pub answer-told :
+    (p : Plan) (o : Outcome) (b : List ℕ) (w : Replied) → p ≡ planOf o Job.Nothing → replied o b ≡ w → decided p b ≡ answers w
+answer-told p o b w e q = ap (λ (y : Plan). decided y b) e ∙ ap answers q
 
-  pub told-done : (x y : Done) → x ≡ y → withReply y b ≡ served q s f n d b → withReply x b ≡ served r s f n d b
-  told-done x y e p = as-told (withReply x b) (ap (λ (z : Done). withReply z b) e ∙ p)
+-- what is left once a plan is carried out, from what was decided
+pub so-settled :
+    (plan : Plan) (o : Outcome) (f d g b : List ℕ) (x : Decided) → done o g ≡ carriedOut (plan .job) (plan .outcome) f d
+    → decided plan b ≡ x → leaves o g b ≡ settled x f d
+unfolding settled
+so-settled plan o f d g b x e q = ap (λ (y : Done). withReply y b) e ∙ ap (λ (y : Decided). settled y f d) q
+
+-- what is decided can be carried out
+module _ (s : Session) (f setup d reply : List ℕ) where
+  -- an outcome that leaves flash alone asks for nothing
+  Can-do : Decided → Type 0
+  Can-do x = Can (x .plan .job) (x .plan .outcome .session .board) f d
+
+  dnload-do : Ready s f → Loading s → Can-do (decided (dnloadOf s f d) reply)
+  unfolding Can-do
+  dnload-do r l =
+      let x = dnload-can s f d r l in
+      subst⁻¹ (λ (b : Board). Can (dnloadOf s f d .job) b f d) (x .board) (x .can)
+
+  served-do :
+      (q : Request) → Ready s f → allowedOf q (wLength setup) (s .phase .state .0) ≡ true
+      → Can-do (served q s f (wLength setup) d reply)
+  unfolding served Can-do
+  served-do Request.Dnload r a = dnload-do r (allowed-loading s (wLength setup) a)
+  served-do Request.Upload r a = tt
+  served-do Request.GetStatus r a = tt
+  served-do Request.ClrStatus r a = tt
+  served-do Request.GetState r a = tt
+  served-do Request.Abort r a = tt
+  served-do Request.Query r a = tt
+  served-do Request.Nothing r a = tt
+
+  pub decided-can :
+      Can (decidedOf s f setup d reply .plan .job) (decidedOf s f setup d reply .plan .outcome .session .board) f d
+  unfolding decidedOf Can-do
+  decided-can =
+      pick Can-do (ready s (length f) setup (length d) (length reply)) _ _
+      (λ e.
+      pick Can-do (allowedOf (requestOf setup) (wLength setup) (s .phase .state .0)) _ _
+      (λ a. served-do (requestOf setup) (ready-fit s f setup (length d) (length reply) e) a) (λ _. tt))
+      (λ _. tt)
+
+  -- the flash that a call leaves is that of its single stores, one after another
+  pub step-stores : stepOf s f setup d reply .flash ≡ carried f (storesOf s f setup d reply)
+  unfolding stepOf settled storesOf
+  step-stores =
+      let p = decidedOf s f setup d reply .plan in
+      stores-made (p .job) (p .outcome) (p .outcome .session .board) f d decided-can

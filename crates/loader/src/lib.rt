@@ -1,6 +1,7 @@
 // The loader: a fresh start, and one request after another. It checks all that it is handed, so a board's programmer need not.
 use flash::BLOCK;
 use flash::Block;
+use jobs::Plan;
 use moves::Answer;
 use moves::Outcome;
 use request::Request;
@@ -10,8 +11,8 @@ ghost use mathlib.Core.Path.{_≡_};
 ghost use mathlib.Core.Bool.{true};
 ghost use lib.ListN.{length};
 ghost use Rattle.request.specs.Request.{requestOf, wLength, allowedOf};
-ghost use Rattle.moves.specs.Answers.{leaves};
-ghost use Rattle.loader.specs.Step.{startable, startOutcome, ready, served, stepOf, Served};
+ghost use Rattle.moves.specs.Answers.{leaves, told};
+ghost use Rattle.loader.specs.Step.{startable, startOutcome, ready, decided, served, decidedOf, stepOf, Served};
 
 mod reply;
 mod upload;
@@ -25,7 +26,7 @@ fn allowed_start(flash_len: usize, a: Block, b: Block) -> bool
 
 // The fresh session of a board, with the sums of its flash; answer 2 and a session of zeros where A, B or the length is wrong.
 pub fn start(flash: &[u8], a: Block, b: Block, part0: u32, part1: u32) -> Outcome
-    ensures { λ r. ⌜ r ≡ startOutcome (now (flash .entry)) (a .0) (b .0) part0 part1 ⌝ }
+    ensures { λ r. ⌜ told r ≡ startOutcome (now (flash .entry)) (a .0) (b .0) part0 part1 ⌝ }
 {
     if !allowed_start(flash.len(), a, b) {
         return Outcome {
@@ -59,41 +60,42 @@ fn is_ready(s: Session, flash_len: usize, setup: &[u8], data_len: usize, reply_l
         & session::fit(s)
 }
 
-// An allowed request.
-fn serve(
-    r: Request,
-    s: Session,
-    flash: &mut [u8],
-    asked: u32,
-    d: &[u8],
-    reply: &mut [u8],
-) -> Outcome
+// What an allowed request does.
+fn serve(r: Request, s: Session, flash: &[u8], asked: u32, d: &[u8], reply: &mut [u8]) -> Plan
     requires { ⌜ Served r s (now flash) asked (length (now reply)) ⌝ }
-    ensures { λ o. ⌜ leaves o (now (flash .exit)) (now (reply .exit)) ≡ served r s (now (flash .entry)) asked (now (d .entry)) (now (reply .entry)) ⌝ }
+    ensures { λ p. ⌜ decided p (now (reply .exit)) ≡ served r s (now (flash .entry)) asked (now (d .entry)) (now (reply .entry)) ⌝ }
 {
     match r {
         Request::Dnload => command::dnload(s, flash, d),
-        Request::Upload => upload::upload(s, flash, asked, reply),
-        Request::GetStatus => reply::getstatus(s, reply),
-        Request::ClrStatus => moves::taken(moves::idle(s)),
-        Request::GetState => reply::getstate(s, reply),
-        Request::Abort => moves::taken(moves::idle(s)),
-        Request::Query => reply::query(s, reply),
-        Request::Nothing => moves::stalled(s),
+        Request::Upload => jobs::only(upload::upload(s, flash, asked, reply)),
+        Request::GetStatus => jobs::only(reply::getstatus(s, reply)),
+        Request::ClrStatus => jobs::only(moves::taken(moves::idle(s))),
+        Request::GetState => jobs::only(reply::getstate(s, reply)),
+        Request::Abort => jobs::only(moves::taken(moves::idle(s))),
+        Request::Query => jobs::only(reply::query(s, reply)),
+        Request::Nothing => jobs::only(moves::stalled(s)),
     }
 }
 
-// One request, well formed or not, in any state.
-pub fn step(s: Session, flash: &mut [u8], setup: &[u8], d: &[u8], reply: &mut [u8]) -> Outcome
-    ensures { λ r. ⌜ leaves r (now (flash .exit)) (now (reply .exit)) ≡ stepOf s (now (flash .entry)) (now (setup .entry)) (now (d .entry)) (now (reply .entry)) ⌝ }
+// What a request does, well formed or not, in any state. Flash is only read: it can't change before every check has passed.
+fn decide(s: Session, flash: &[u8], setup: &[u8], d: &[u8], reply: &mut [u8]) -> Plan
+    ensures { λ p. ⌜ decided p (now (reply .exit)) ≡ decidedOf s (now (flash .entry)) (now (setup .entry)) (now (d .entry)) (now (reply .entry)) ⌝ }
 {
     if !is_ready(s, flash.len(), setup, d.len(), reply.len()) {
-        return moves::unfit(s);
+        return jobs::only(moves::unfit(s));
     }
     let r = request::read_setup(setup);
     let asked = request::length_of(setup);
     if !request::allowed(r, asked, s.phase.state) {
-        return moves::stalled(s);
+        return jobs::only(moves::stalled(s));
     }
     serve(r, s, flash, asked, d, reply)
+}
+
+// One request: decided, then carried out.
+pub fn step(s: Session, flash: &mut [u8], setup: &[u8], d: &[u8], reply: &mut [u8]) -> Outcome
+    ensures { λ r. ⌜ leaves r (now (flash .exit)) (now (reply .exit)) ≡ stepOf s (now (flash .entry)) (now (setup .entry)) (now (d .entry)) (now (reply .entry)) ⌝ }
+{
+    let plan = decide(s, flash, setup, d, reply);
+    jobs::carry_out(plan, flash, d)
 }

@@ -1,10 +1,11 @@
 -- Each arm by its request. Assumes nothing.
-use mathlib.Core.Path.{refl, sym, ap, _∙_}
-use Rattle.loader.proofs.Laws.{allowed-loading, told-done, told-reply, told-outcome}
-use Rattle.loader.specs.Step.{served}
+use mathlib.Core.Path.{sym, ap, _∙_}
 use Rattle.request.specs.Request.{allowedOf}
 use Rattle.request.specs.declared.Request.{Request}
 use Rattle.moves.specs.Moves.{takenOf}
+use Rattle.jobs.specs.declared.Plan.{Plan}
+use Rattle.loader.specs.Step.{decided, served}
+use Rattle.loader.proofs.Laws.{allowed-loading, as-told, only-told, answer-told}
 use borrow.Author.Needs.{needs}
 use Rattle.loader.proofs.serve.Statement.{statement}
 use Rattle.loader.proofs.serve.Tie as tie
@@ -14,24 +15,31 @@ enum-told c = search needs
 
 dnload-requires : tie.Need-dnload-requires
 dnload-requires c κs =
-    let t = c .before in
-    let s = t .before .before .before .before .before in
-    (s .pre .prepared, allowed-loading _ (s .args .asked) (ap (λ (q : Request). allowedOf q (s .args .asked) (s .args .s .phase .state .0)) (sym (t .enum-told .given .1)) ∙ s .pre .permitted))
+    let s = c .before .before .before .before .before in
+    let told = sym (c .enum-told .given .1) in
+    let at = ap (λ (q : Request). allowedOf q (s .args .asked) (s .args .s .phase .state .0)) told in
+    (s .pre .prepared, allowed-loading _ (s .args .asked) (at ∙ s .pre .permitted))
 
 enum-told-2 : tie.Need-enum-told-2
 enum-told-2 c = search needs
 
 upload-requires : tie.Need-upload-requires
 upload-requires c κs =
-    let t = c .before .before in
+    let t = c .before in
     let s = t .before .before .before .before .before in
     (s .pre .prepared, (s .pre .few (t .enum-told2 .given .1), s .pre .roomy))
+
+only-requires : tie.Need-only-requires
+only-requires c κs = search needs
 
 enum-told-3 : tie.Need-enum-told-3
 enum-told-3 c = search needs
 
 getstatus-requires : tie.Need-getstatus-requires
 getstatus-requires c κs = search needs
+
+only-requires-2 : tie.Need-only-requires-2
+only-requires-2 c κs = search needs
 
 enum-told-4 : tie.Need-enum-told-4
 enum-told-4 c = search needs
@@ -42,11 +50,17 @@ idle-requires c κs = search needs
 taken-requires : tie.Need-taken-requires
 taken-requires c κs = search needs
 
+only-requires-3 : tie.Need-only-requires-3
+only-requires-3 c κs = search needs
+
 enum-told-5 : tie.Need-enum-told-5
 enum-told-5 c = search needs
 
 getstate-requires : tie.Need-getstate-requires
 getstate-requires c κs = search needs
+
+only-requires-4 : tie.Need-only-requires-4
+only-requires-4 c κs = search needs
 
 enum-told-6 : tie.Need-enum-told-6
 enum-told-6 c = search needs
@@ -57,11 +71,17 @@ idle-requires-2 c κs = search needs
 taken-requires-2 : tie.Need-taken-requires-2
 taken-requires-2 c κs = search needs
 
+only-requires-5 : tie.Need-only-requires-5
+only-requires-5 c κs = search needs
+
 enum-told-7 : tie.Need-enum-told-7
 enum-told-7 c = search needs
 
 query-requires : tie.Need-query-requires
 query-requires c κs = search needs
+
+only-requires-6 : tie.Need-only-requires-6
+only-requires-6 c κs = search needs
 
 enum-told-8 : tie.Need-enum-told-8
 enum-told-8 c = search needs
@@ -69,55 +89,68 @@ enum-told-8 c = search needs
 stalled-requires : tie.Need-stalled-requires
 stalled-requires c κs = search needs
 
-same-length : tie.Need-same-length
-same-length c = search needs
+only-requires-7 : tie.Need-only-requires-7
+only-requires-7 c κs = search needs
 
 returns : tie.Need-returns
 unfolding served
-returns c = told-done _ _ _ _ _ _ _ (c .before .before .before .before .enum-told .given .1) _ _ (c .before .before .dnload .ensures) refl
+returns c =
+    let m = c .before .before in
+    let s = m .before .before .before .before in
+    as-told _ _ _ _ _ _ _ _ (c .before .enum-told .given .1) (ap (λ (x : Plan). decided x (s .args .reply .now)) (c .dnload .ensures))
+
+same-length : tie.Need-same-length
+same-length c = search needs
+
+returns-2 : tie.Need-returns-2
+unfolding served
+returns-2 c =
+    let told = c .before .before .before .before .before .enum-told2 .given .1 in
+    as-told _ _ _ _ _ _ _ _ told (answer-told _ _ _ _ (c .only .ensures) (c .before .before .before .upload .ensures))
 
 same-length-2 : tie.Need-same-length-2
 same-length-2 c = search needs
 
+returns-3 : tie.Need-returns-3
+unfolding served
+returns-3 c =
+    let told = c .before .before .before .before .before .enum-told3 .given .1 in
+    as-told _ _ _ _ _ _ _ _ told (answer-told _ _ _ _ (c .only2 .ensures) (c .before .before .before .getstatus .ensures))
+
+returns-4 : tie.Need-returns-4
+unfolding served
+returns-4 c =
+    as-told _ _ _ _ _ _ _ _ (c .before .before .before .enum-told4 .given .1)
+    (only-told _ _ _ _ (c .only3 .ensures) (c .before .taken .ensures ∙ ap takenOf (c .before .before .idle .ensures)))
+
 same-length-3 : tie.Need-same-length-3
 same-length-3 c = search needs
 
-returns-2 : tie.Need-returns-2
+returns-5 : tie.Need-returns-5
 unfolding served
-returns-2 c = told-reply _ _ _ _ _ _ _ (c .before .before .before .before .before .enum-told2 .given .1) _ _ (c .before .before .upload .ensures) refl
+returns-5 c =
+    let told = c .before .before .before .before .before .enum-told5 .given .1 in
+    as-told _ _ _ _ _ _ _ _ told (answer-told _ _ _ _ (c .only4 .ensures) (c .before .before .before .getstate .ensures))
+
+returns-6 : tie.Need-returns-6
+unfolding served
+returns-6 c =
+    as-told _ _ _ _ _ _ _ _ (c .before .before .before .enum-told6 .given .1)
+    (only-told _ _ _ _ (c .only5 .ensures) (c .before .taken2 .ensures ∙ ap takenOf (c .before .before .idle2 .ensures)))
 
 same-length-4 : tie.Need-same-length-4
 same-length-4 c = search needs
 
-returns-3 : tie.Need-returns-3
-unfolding served
-returns-3 c = told-reply _ _ _ _ _ _ _ (c .before .before .before .before .enum-told3 .given .1) _ _ (c .before .before .getstatus .ensures) refl
-
-returns-4 : tie.Need-returns-4
-unfolding served
-returns-4 c = told-outcome _ _ _ _ _ _ _ (c .before .before .enum-told4 .given .1) _ _ (c .taken .ensures ∙ ap takenOf (c .before .idle .ensures)) refl
-
-same-length-5 : tie.Need-same-length-5
-same-length-5 c = search needs
-
-returns-5 : tie.Need-returns-5
-unfolding served
-returns-5 c = told-reply _ _ _ _ _ _ _ (c .before .before .before .before .enum-told5 .given .1) _ _ (c .before .before .getstate .ensures) refl
-
-returns-6 : tie.Need-returns-6
-unfolding served
-returns-6 c = told-outcome _ _ _ _ _ _ _ (c .before .before .enum-told6 .given .1) _ _ (c .taken2 .ensures ∙ ap takenOf (c .before .idle2 .ensures)) refl
-
-same-length-6 : tie.Need-same-length-6
-same-length-6 c = search needs
-
 returns-7 : tie.Need-returns-7
 unfolding served
-returns-7 c = told-reply _ _ _ _ _ _ _ (c .before .before .before .before .enum-told7 .given .1) _ _ (c .before .before .query .ensures) refl
+returns-7 c =
+    let told = c .before .before .before .before .before .enum-told7 .given .1 in
+    as-told _ _ _ _ _ _ _ _ told (answer-told _ _ _ _ (c .only6 .ensures) (c .before .before .before .query .ensures))
 
 returns-8 : tie.Need-returns-8
 unfolding served
-returns-8 c = told-outcome _ _ _ _ _ _ _ (c .before .enum-told8 .given .1) _ _ (c .stalled .ensures) refl
+returns-8 c =
+    as-told _ _ _ _ _ _ _ _ (c .before .before .enum-told8 .given .1) (only-told _ _ _ _ (c .only7 .ensures) (c .before .stalled .ensures))
 
 pub serve-spec : {M : Type 1} → statement M
 serve-spec =
@@ -127,31 +160,36 @@ serve-spec =
     dnload-requires
     enum-told-2
     upload-requires
+    only-requires
     enum-told-3
     getstatus-requires
+    only-requires-2
     enum-told-4
     idle-requires
     taken-requires
+    only-requires-3
     enum-told-5
     getstate-requires
+    only-requires-4
     enum-told-6
     idle-requires-2
     taken-requires-2
+    only-requires-5
     enum-told-7
     query-requires
+    only-requires-6
     enum-told-8
     stalled-requires
-    same-length
+    only-requires-7
     returns
-    same-length-2
-    same-length-3
+    same-length
     returns-2
-    same-length-4
+    same-length-2
     returns-3
     returns-4
-    same-length-5
+    same-length-3
     returns-5
     returns-6
-    same-length-6
+    same-length-4
     returns-7
     returns-8)
