@@ -21,7 +21,7 @@ pub struct Tally {
     pub requests: u64,
     starts: u64,
     refused_starts: u64,
-    splits: HashSet<(u16, u16)>,
+    splits: HashSet<(u32, u32)>,
     answers: [u64; 5],
     unfit_sessions: u64,
     /// By the state that the request met and its answer.
