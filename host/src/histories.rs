@@ -63,8 +63,8 @@ impl History {
         }
     }
 
-    /// The starts to make, one after the other: the right one, and in one
-    /// history of four another before it, mostly to be refused.
+    /// The starts to make, one after the other: the right one, and in three
+    /// histories of eight another before it, mostly to be refused.
     pub fn starts(&mut self) -> Vec<Start> {
         let right = Start {
             lent: (self.b * BLOCK) as usize,
@@ -74,8 +74,8 @@ impl History {
             part1: self.dice.turn() as u32,
         };
         match self.dice.below(8) {
-            0 => vec![self.other(&right), right],
-            1 => vec![self.wide(&right), right],
+            0..=1 => vec![self.other(&right), right],
+            2 => vec![self.wide(&right), right],
             _ => vec![right],
         }
     }
