@@ -47,8 +47,8 @@ impl Tally {
         self.start_rows.see(call, answer);
     }
 
-    pub fn request(&mut self, seen: &Seen) {
-        self.requests += 1;
+    /// A request on which the two loaders agreed.
+    pub fn agreed(&mut self, seen: &Seen) {
         self.answers[usize::from(seen.outcome.answer)] += 1;
         self.unfit_sessions += u64::from(!seen.lent().fits());
         self.rows.see(seen);
