@@ -99,10 +99,9 @@ struct mullirim_answer {
 /*
  * Reads a flash of `blocks` blocks, whose application starts at block `first`, and makes its session: state 2, sums filled, the
  * upload set to all of the application with its prefix. Changes no byte of the flash. Unfit unless
- * 1 <= first < blocks <= MULLIRIM_MOST_BLOCKS and flash_len == blocks * MULLIRIM_BLOCK. Both are 16 bits: of a wider number C hands
- * over the low half, before anything is checked.
+ * 1 <= first < blocks <= MULLIRIM_MOST_BLOCKS and flash_len == blocks * MULLIRIM_BLOCK.
  */
-struct mullirim_started mullirim_start(const uint8_t *flash, size_t flash_len, uint16_t first, uint16_t blocks,
+struct mullirim_started mullirim_start(const uint8_t *flash, size_t flash_len, uint32_t first, uint32_t blocks,
                                        uint32_t part, uint32_t klass);
 
 /*

@@ -19,7 +19,7 @@
 
 enum { ROOM = (MULLIRIM_MOST_BLOCKS + 1) * MULLIRIM_BLOCK, REPLY = 2 * MULLIRIM_REPLY_ROOM, SETUP = 16, DATA = 65536, GUARD = 65536 };
 
-static uint32_t requests;
+static uint32_t requests, wide;
 static uint8_t flash[ROOM], reply[REPLY], setup[SETUP], data[DATA];
 
 static void fail(const char *what)
@@ -106,7 +106,7 @@ static void play_start(void)
     static uint8_t after[ROOM];
     static struct loan f;
     size_t len = read_number(ROOM);
-    uint16_t first = (uint16_t)read_number(65535), blocks = (uint16_t)read_number(65535);
+    uint32_t first = read_number(UINT32_MAX), blocks = read_number(UINT32_MAX);
     uint32_t part = read_number(UINT32_MAX), klass = read_number(UINT32_MAX);
     uint8_t code;
 
@@ -120,6 +120,7 @@ static void play_start(void)
     if (memcmp(flash, after, len))
         fail("a start changed the flash");
     same_session(&s.session);
+    wide += first > UINT16_MAX || blocks > UINT16_MAX;
 }
 
 /* The outcome, once the recording's own change is made to `flash` and its reply to `reply`. */
@@ -180,6 +181,7 @@ int main(void)
     }
     if (read_number(UINT32_MAX) != requests || getchar() != EOF)
         fail("the recording does not end as it says");
-    printf("%u requests after %u starts replayed: all as recorded\n", (unsigned)requests, (unsigned)starts);
+    printf("%u requests after %u starts (%u with A or B over 65,535) replayed: all as recorded\n", (unsigned)requests, (unsigned)starts,
+           (unsigned)wide);
     return 0;
 }

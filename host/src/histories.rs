@@ -7,8 +7,8 @@ use crate::requests::{any_request, choose};
 use crate::second::{answer, start, step, Outcome, Session, BLOCK, ERASED, MOST_BLOCKS, TRANSFER};
 use crate::sessions;
 
-/// Every B from 2 to 64 with every A below it.
-pub const SPLITS: u64 = 2_016;
+/// Every B from 2 to the most with every A below it.
+pub const SPLITS: u64 = (MOST_BLOCKS * (MOST_BLOCKS - 1) / 2) as u64;
 /// The longest flash that is ever lent: a block more than the most.
 pub const FLASH_ROOM: usize = (MOST_BLOCKS + 1) * BLOCK as usize;
 /// The longest reply buffer that is ever lent.
@@ -17,8 +17,8 @@ pub const REPLY_ROOM: usize = 2 * TRANSFER;
 /// What a start is lent.
 pub struct Start {
     pub lent: usize,
-    pub a: u16,
-    pub b: u16,
+    pub a: u32,
+    pub b: u32,
     pub part0: u32,
     pub part1: u32,
 }
@@ -44,7 +44,7 @@ pub struct History {
 
 impl History {
     /// The history's flash, before any call. Numbers that follow each other
-    /// get splits far apart, and 2,016 in a row get every one.
+    /// get splits far apart, and `SPLITS` in a row get every one.
     pub fn new(seed: u64, number: u64) -> History {
         let mut dice = Dice::new(seed.rotate_left(32) ^ number);
         let (a, b) = split(number.wrapping_mul(997) % SPLITS);
@@ -63,42 +63,66 @@ impl History {
         }
     }
 
-    /// The starts to make, one after the other: the right one, and in one
-    /// history of eight another before it, mostly to be refused.
+    /// The starts to make, one after the other: the right one, and in three
+    /// histories of eight another before it, mostly to be refused.
     pub fn starts(&mut self) -> Vec<Start> {
         let right = Start {
             lent: (self.b * BLOCK) as usize,
-            a: self.session.a as u16,
-            b: self.b as u16,
+            a: self.session.a,
+            b: self.b,
             part0: self.dice.turn() as u32,
             part1: self.dice.turn() as u32,
         };
         match self.dice.below(8) {
-            0 => vec![self.other(&right), right],
+            0..=1 => vec![self.other(&right), right],
+            2 => vec![self.wide(&right), right],
             _ => vec![right],
         }
     }
 
-    /// A start with one thing changed, or of 65 blocks with all their bytes.
+    /// A start with one thing changed, or of a block too many with all their
+    /// bytes.
     fn other(&mut self, right: &Start) -> Start {
-        let near = |n: u16, by: u32| (u32::from(n) + by).wrapping_sub(1) as u16;
+        let most = MOST_BLOCKS as u32;
+        let near = |n: u32, by: u32| (n + by).wrapping_sub(1);
         let mut start = Start { ..*right };
         match self.dice.below(7) {
             0 => start.a = [0, start.b, start.b + 1, 65_535][self.dice.below(4) as usize],
-            1 => start.b = [0, 65, 64, start.a, 65_535][self.dice.below(5) as usize],
+            1 => start.b = [0, most + 1, most, start.a, 65_535][self.dice.below(5) as usize],
             2 => start.lent = self.lent_wrong(),
             3 => start.a = near(start.a, self.dice.below(3)),
             4 => start.b = near(start.b, self.dice.below(3)),
-            _ => (start.b, start.lent) = (65, FLASH_ROOM),
+            _ => (start.b, start.lent) = (most + 1, FLASH_ROOM),
+        }
+        start
+    }
+
+    /// A start with A, B or both over 65,535: numbers that would be right if
+    /// they were cut to 16 bits, whose bytes would be right if they were
+    /// reckoned in 32, or near the end of 32 bits.
+    fn wide(&mut self, right: &Start) -> Start {
+        let dice = &mut self.dice;
+        let mut more = || match dice.below(4) {
+            0 => 1 << (22 + dice.below(10)),
+            1 => u32::MAX - MOST_BLOCKS as u32 - dice.below(4),
+            _ => 65_536 * (1 + dice.below(65_535)),
+        };
+        let (a, b) = (more(), more());
+        let mut start = Start { ..*right };
+        let which = self.dice.below(3);
+        if which != 0 {
+            start.a += a;
+        }
+        if which != 1 {
+            start.b += b;
         }
         start
     }
 
     /// Lets the second loader make a start.
     pub fn begin(&mut self, call: &Start) -> u8 {
-        let (a, b) = (u32::from(call.a), u32::from(call.b));
         let lent = &self.flash[..call.lent];
-        let (answer, session) = start(lent, a, b, call.part0, call.part1);
+        let (answer, session) = start(lent, call.a, call.b, call.part0, call.part1);
         self.session = session;
         answer
     }
@@ -214,10 +238,11 @@ mod tests {
     #[test]
     fn every_split_has_its_turn() {
         let all: HashSet<_> = (0..SPLITS).map(split).collect();
-        assert_eq!(all.len(), 2_016);
-        assert!(all.iter().all(|(a, b)| 1 <= *a && a < b && *b <= 64));
+        assert_eq!(all.len(), SPLITS as usize);
+        let most = MOST_BLOCKS as u32;
+        assert!(all.iter().all(|(a, b)| 1 <= *a && a < b && *b <= most));
         let met: HashSet<_> = (0..SPLITS).map(|n| n * 997 % SPLITS).collect();
-        assert_eq!(met.len(), 2_016);
+        assert_eq!(met.len(), SPLITS as usize);
     }
 
     /// Without lent sessions the sums must stay those worked out afresh.

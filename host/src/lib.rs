@@ -2,6 +2,7 @@
 
 pub mod dice;
 pub mod histories;
+pub mod layout;
 pub mod requests;
 pub mod second;
 pub mod sessions;

@@ -2,7 +2,7 @@
 //! more often than not its state takes them.
 
 use crate::dice::Dice;
-use crate::second::{command, state, Session, BLOCK, ERASED};
+use crate::second::{command, state, Session, BLOCK, ERASED, INFO_STREAM};
 use crate::tape::{header, setup, QUERY};
 
 /// The setup bytes and the data.
@@ -18,8 +18,37 @@ pub fn choose(dice: &mut Dice, session: &Session, flash: &[u8]) -> Request {
         }
         3 => any_request(dice),
         4 => border(dice, session),
+        5 => misshapen(dice, session.state),
         _ => sensible(dice, session, flash),
     }
+}
+
+/// A request that the state allows, with one part of its form just wrong: its
+/// type, its wIndex, its wLength by one, the query's wValue.
+fn misshapen(dice: &mut Dice, state: u8) -> Request {
+    let fitting = match (state, dice.below(2)) {
+        (state::ERROR, 0) => (0x21, 4, 0),
+        (state::ERROR, _) => (0xA1, 3, 6),
+        (_, 0) => (0x21, 6, 0),
+        _ => (0xA1, 2, [1, 1_024][dice.below(2) as usize]),
+    };
+    let anywhere = [(0xA1, 3, 6), (0xA1, 5, 1), (0xA1, 0x42, 4), (0x21, 1, 0)];
+    let (kind, number, length) = match dice.below(6) {
+        n @ 0..=3 => anywhere[n as usize],
+        _ => fitting,
+    };
+    let (mut setup, data) = request(kind, number, length);
+    if number == 0x42 {
+        setup[2] = 0x23;
+    }
+    match dice.below(5) {
+        0 => setup[0] ^= 0x80,
+        1 => setup[4 + dice.below(2) as usize] = 1 << dice.below(8),
+        2 => setup[6..8].copy_from_slice(&(length as u16 + 1).to_le_bytes()),
+        3 => setup[6..8].copy_from_slice(&(length as u16).saturating_sub(1).to_le_bytes()),
+        _ => setup[2 + dice.below(2) as usize] ^= 1 << dice.below(8),
+    }
+    (setup, data)
 }
 
 fn request(kind: u8, number: u8, length: u32) -> Request {
@@ -123,14 +152,14 @@ fn sensible(dice: &mut Dice, session: &Session, flash: &[u8]) -> Request {
     let roll = dice.below(10);
     match (session.state, roll) {
         (_, 0) => any_status(dice),
-        (state::IDLE, 1..=2) => upload(dice),
+        (state::IDLE, 1..=2) => upload(dice, session),
         (state::IDLE, _) => dnload(a_command(dice, session, flash)),
         (state::DOWN_SYNC | state::MANIFEST_SYNC, 1) => any_request(dice),
         (state::DOWN_SYNC | state::MANIFEST_SYNC, _) => request(0xA1, 3, 6),
         (state::DOWN_IDLE, 1) if session.down_left > 0 => request(0x21, 6, 0),
         (state::DOWN_IDLE, _) => dnload(piece(dice, session.down_left)),
         (state::UP_IDLE, 1..=2) => request(0x21, 6, 0),
-        (state::UP_IDLE, _) => upload(dice),
+        (state::UP_IDLE, _) => upload(dice, session),
         _ => request(0x21, 4, 0),
     }
 }
@@ -143,12 +172,20 @@ fn any_status(dice: &mut Dice) -> Request {
     }
 }
 
-fn upload(dice: &mut Dice) -> Request {
-    match dice.below(8) {
-        0 => request(0xA1, 2, 1_023),
-        1..=2 => request(0xA1, 2, 1 + dice.below(1_024)),
-        _ => request(0xA1, 2, 1_024),
-    }
+fn upload(dice: &mut Dice, session: &Session) -> Request {
+    let stream = match (session.up_choice, session.up_prefix) {
+        (INFO_STREAM, _) => 20,
+        (_, prefix) => session.up_len + 8 * u32::from(prefix),
+    };
+    let left = stream - session.up_place;
+    let length = match dice.below(16) {
+        0 => 1_023,
+        1 => 1,
+        2..=4 => 1 + dice.below(1_024),
+        5 if left < 1_024 => (left + dice.below(3)).saturating_sub(1).max(1),
+        _ => 1_024,
+    };
+    request(0xA1, 2, length)
 }
 
 /// The next data of a download: mostly what it still awaits, now and then too
@@ -171,9 +208,11 @@ fn a_command(dice: &mut Dice, session: &Session, flash: &[u8]) -> Vec<u8> {
     match dice.below(16) {
         0 => data.truncate(1 + dice.below(7) as usize),
         1 => {
-            let more = 1 + dice.below(9);
+            let more = 1 + dice.below(9) * dice.below(2);
             data.extend(dice.bytes(more));
         }
+        // Only BIN reads it.
+        2 => data[1] = dice.below(256) as u8,
         _ => {}
     }
     data
@@ -190,7 +229,10 @@ fn whole_command(dice: &mut Dice, session: &Session, flash: &[u8]) -> Vec<u8> {
         16 => header(command::INFO, block, count).to_vec(),
         17 => vec![command::BIN, dice.below(3) as u8, 1, 2, 3, 4, 5, 6],
         18 => header(command::RESET, block, count).to_vec(),
-        _ => header(dice.below(256) as u8, block, count).to_vec(),
+        _ => {
+            let unknown = [0, 8, 9, 255, dice.below(256) as u8];
+            header(unknown[dice.below(5) as usize], block, count).to_vec()
+        }
     }
 }
 
@@ -207,7 +249,7 @@ fn blocks(dice: &mut Dice, session: &Session) -> (u16, u32) {
         1 => (block, room - offset + 1),
         2..=3 => (block, room - offset),
         4 => (session.a - 1, some),
-        5 => (session.b, 1),
+        5 => (session.b * dice.below(2), 1),
         6 => (block + 256 * (1 + dice.below(255)), some),
         7 => (block, some + 256 * (1 + dice.below(255))),
         8 => (block, some + 16_384 * (1 + dice.below(3))),
@@ -226,14 +268,16 @@ fn ranged(dice: &mut Dice, session: &Session, number: u8) -> Vec<u8> {
     let offset = dice.below(room);
     let bytes = (room - offset) * BLOCK;
     let block = (session.a + offset) as u16;
-    let (block, length) = match dice.below(14) {
+    let (block, length) = match dice.below(15) {
         0 => (block, 0),
         1 => (block, bytes + 1),
         2 => (block, u32::MAX - dice.below(70_000)),
         3 => (session.a as u16 - 1, 1 + dice.below(2_000)),
         4 => (session.b as u16, 1),
         5 => (dice.below(65_536) as u16, 1 + dice.below(2_000)),
+        6 if dice.below(2) == 0 => (session.a as u16, room * BLOCK),
         6 => (block, bytes),
+        9 => (0, 1 + dice.below(2_000)),
         7 => (block + 256, 1 + dice.below(bytes)),
         8 => (block, (1 + dice.below(bytes)) | 1 << (17 + dice.below(15))),
         _ => (block, 1 + dice.below(bytes.min(3_000))),
@@ -257,18 +301,40 @@ fn erased_run(dice: &mut Dice, session: &Session, flash: &[u8]) -> Option<(u16, 
 }
 
 fn check_erased(dice: &mut Dice, session: &Session, flash: &[u8]) -> Vec<u8> {
+    if dice.below(3) == 0 {
+        return around_a_lone_byte(dice, session, flash, command::CHECK);
+    }
     match erased_run(dice, session, flash) {
         Some((block, run)) => header(command::CHECK, block, run + dice.below(2)).to_vec(),
         None => ranged(dice, session, command::CHECK),
     }
 }
 
+/// A range over the first block, from a random one on, of which one byte alone
+/// is not erased: up to that byte, with it, or the whole block.
+fn around_a_lone_byte(dice: &mut Dice, session: &Session, flash: &[u8], number: u8) -> Vec<u8> {
+    let from = session.a + dice.below(session.b - session.a);
+    let lone = (from..session.b).find_map(|block| {
+        let place = (block * BLOCK) as usize;
+        let bytes = &flash[place..place + BLOCK as usize];
+        let mut dirty = (0..BLOCK).filter(|at| bytes[*at as usize] != ERASED);
+        let first = dirty.next()?;
+        dirty.next().is_none().then_some((block, first))
+    });
+    let Some((block, at)) = lone else {
+        return ranged(dice, session, number);
+    };
+    let length = [at, at + 1, BLOCK][dice.below(3) as usize];
+    header(number, block as u16, length.max(1)).to_vec()
+}
+
 /// A PROG over erased flash where there is some, with first data that fits
 /// its length most times.
 fn prog(dice: &mut Dice, session: &Session, flash: &[u8]) -> Vec<u8> {
     let run = erased_run(dice, session, flash);
-    let (block, run) = match (dice.below(6), run) {
-        (1.., Some(found)) => found,
+    let (block, run) = match (dice.below(18), run) {
+        (3.., Some(found)) => found,
+        (2, _) => return around_a_lone_byte(dice, session, flash, command::PROG),
         _ => return prog_anywhere(dice, session),
     };
     let length = match dice.below(5) {

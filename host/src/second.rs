@@ -848,7 +848,7 @@ mod tests {
         let breaks: [fn(&mut Session); 14] = [
             |s| s.a = 0,
             |s| s.a = 64,
-            |s| s.b = 65,
+            |s| s.b = MOST_BLOCKS as u32 + 1,
             |s| s.b = u32::MAX,
             |s| s.state = 4,
             |s| s.status = 0x0F,
@@ -889,7 +889,9 @@ mod tests {
     #[test]
     fn a_wrong_start_hands_back_zeros() {
         let flash = vec![ERASED; 65_536];
-        for (a, b) in [(0, 64), (64, 64), (16, 65), (16, 63)] {
+        let wide = [(65_552, 64), (16, 65_600), (65_552, 65_600)];
+        let near = [(0, 64), (64, 64), (16, MOST_BLOCKS as u32 + 1), (16, 63)];
+        for (a, b) in near.into_iter().chain(wide) {
             let (answer, session) = start(&flash, a, b, 1, 2);
             assert_eq!((answer, &session), (2, &Session::zeros()));
             assert!(!session.fits());

@@ -2,7 +2,7 @@
 //! numbers thrown together.
 
 use crate::dice::Dice;
-use crate::second::{state, status, Session, BLOCK, FLASH_STREAM, INFO_STREAM};
+use crate::second::{state, status, Session, BLOCK, FLASH_STREAM, INFO_STREAM, MOST_BLOCKS};
 
 const STATES: [u8; 6] = [
     state::IDLE,
@@ -108,7 +108,7 @@ pub fn altered(dice: &mut Dice, mut session: Session) -> Session {
         9 => session.up_first = number,
         10 => session.up_len = number,
         11 => session.up_place = number,
-        12 => session.sums[dice.below(64) as usize] = number,
+        12 => session.sums[dice.below(MOST_BLOCKS as u32) as usize] = number,
         _ => session.whole = number,
     }
     session
@@ -131,8 +131,8 @@ fn strange_number(dice: &mut Dice, session: &Session) -> u32 {
         session.up_len,
         session.up_len.wrapping_add(8),
         20,
-        64,
-        65_536,
+        MOST_BLOCKS as u32,
+        MOST_BLOCKS as u32 * BLOCK,
         session.up_first.wrapping_add(1 << 22),
         u32::MAX,
     ];
@@ -156,7 +156,7 @@ mod tests {
     #[test]
     fn fit_sessions_fit() {
         let mut dice = Dice::new(1);
-        for b in 2..=64 {
+        for b in 2..=MOST_BLOCKS as u32 {
             for _ in 0..100 {
                 let session = fit(&mut dice, b);
                 assert!(session.fits(), "{session:?}");

@@ -30,20 +30,14 @@ struct Served {
 #[no_mangle]
 pub extern "C" fn mullirim_start(
     flash: &[u8],
-    first: u16,
-    blocks: u16,
+    first: u32,
+    blocks: u32,
     part: u32,
     klass: u32,
 ) -> Started
     ensures { λ r. ⌜ r ≡ startedOf (now (flash .entry)) first blocks part klass ⌝ }
 {
-    let o = loader::start(
-        flash,
-        Block(first as u32),
-        Block(blocks as u32),
-        part,
-        klass,
-    );
+    let o = loader::start(flash, Block(first), Block(blocks), part, klass);
     let answer = o.answer;
     let session = o.session;
     Started {

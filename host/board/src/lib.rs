@@ -5,13 +5,11 @@
 
 mod raw;
 
-pub use raw::{Answer, Board, Download, Phase, Session, Started, Sums, Upload, MOST_BLOCKS};
-
-use mullirim_host::second;
+pub use mullirim_host::layout::{Answer, Session, Started, Sums};
 
 /// Reads a flash of `blocks` blocks whose application starts at block `first`
 /// and makes its session. Unfit numbers give code 2 and a session of zeros.
-pub fn start(flash: &[u8], first: u16, blocks: u16, part: u32, klass: u32) -> Started {
+pub fn start(flash: &[u8], first: u32, blocks: u32, part: u32, klass: u32) -> Started {
     // SAFETY: the slice lends its bytes for the call, and a pointer from a
     // slice is not null, also where it is empty.
     unsafe { raw::mullirim_start(flash.as_ptr(), flash.len(), first, blocks, part, klass) }
@@ -49,94 +47,36 @@ pub fn sum(bytes: &[u8]) -> u32 {
     unsafe { raw::mullirim_sum(bytes.as_ptr(), bytes.len()) }
 }
 
-/// The second loader's session, field for field.
-impl From<&Session> for second::Session {
-    fn from(from: &Session) -> second::Session {
-        second::Session {
-            a: from.board.first,
-            b: from.board.blocks,
-            part0: from.board.part,
-            part1: from.board.klass,
-            state: from.phase.state,
-            status: from.phase.status,
-            after: from.phase.after,
-            down_place: from.download.place,
-            down_left: from.download.left,
-            up_choice: from.upload.choice,
-            up_prefix: from.upload.prefix,
-            up_first: from.upload.first,
-            up_len: from.upload.len,
-            up_place: from.upload.place,
-            sums: from.sums.block,
-            whole: from.sums.whole,
-        }
-    }
-}
-
-/// And back.
-impl From<&second::Session> for Session {
-    fn from(from: &second::Session) -> Session {
-        Session {
-            board: Board {
-                first: from.a,
-                blocks: from.b,
-                part: from.part0,
-                klass: from.part1,
-            },
-            phase: Phase {
-                state: from.state,
-                status: from.status,
-                after: from.after,
-            },
-            download: Download {
-                place: from.down_place,
-                left: from.down_left,
-            },
-            upload: Upload {
-                choice: from.up_choice,
-                prefix: from.up_prefix,
-                first: from.up_first,
-                len: from.up_len,
-                place: from.up_place,
-            },
-            sums: Sums {
-                block: from.sums,
-                whole: from.whole,
-            },
-        }
-    }
-}
-
 #[cfg(test)]
 mod tests {
     use super::*;
-    use std::mem::{offset_of, size_of};
+    use mullirim_host::second::{self, BLOCK, MOST_BLOCKS};
 
-    /// The offsets of `tests/layout.c`, which holds the C header to them.
+    /// Every block that a session has a sum for, and not one more.
     #[test]
-    fn a_session_lies_as_the_header_says() {
-        assert_eq!((size_of::<Session>(), size_of::<Started>()), (304, 308));
-        assert_eq!(size_of::<Answer>(), 8);
-        let parts = [
-            offset_of!(Session, board),
-            offset_of!(Session, phase),
-            offset_of!(Session, download),
-            offset_of!(Session, upload),
-            offset_of!(Session, sums),
-        ];
-        assert_eq!(parts, [0, 16, 20, 28, 44]);
-        assert_eq!(offset_of!(Upload, first), 4);
-        assert_eq!(offset_of!(Sums, whole), 256);
+    fn the_most_blocks_are_the_librarys() {
+        let flash = vec![0x5A; (MOST_BLOCKS + 1) * BLOCK as usize];
+        let most = MOST_BLOCKS as u32;
+        let (_, awaited) = second::start(&flash[BLOCK as usize..], 1, most, 7, 9);
+        let started = start(&flash[BLOCK as usize..], 1, most, 7, 9);
+        assert_eq!(started.code, 0);
+        assert_eq!(second::Session::from(&started.session), awaited);
+        assert_eq!(start(&flash, 1, most + 1, 7, 9).code, 2);
     }
 
+    /// Cut down to 16 bits they would be allowed.
     #[test]
-    fn a_session_is_the_same_there_and_back() {
-        let mut session = start(&[0x5A; 4_096], 2, 4, 7, 9).session;
-        session.phase.status = 3;
-        session.download.left = 5;
-        session.upload.place = 6;
-        let second = second::Session::from(&session);
-        assert_eq!(Session::from(&second), session);
+    fn wide_numbers_are_refused() {
+        let flash = [0x5A; 4_096];
+        assert_eq!(start(&flash, 2, 4, 0, 0).code, 0);
+        for (first, blocks) in [(65_538, 4), (2, 65_540), (65_538, 131_076)] {
+            let started = start(&flash, first, blocks, 0, 0);
+            assert_eq!(started.code, 2);
+            assert_eq!(
+                started.session.bytes(),
+                Session::from(&second::Session::zeros()).bytes()
+            );
+        }
     }
 
     #[test]

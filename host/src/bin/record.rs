@@ -3,6 +3,7 @@
 //! says how it is laid out.
 
 use mullirim_host::histories::{Call, History, Start, REPLY_ROOM};
+use mullirim_host::layout;
 use mullirim_host::second::{Outcome, Session};
 use std::io::{self, Write};
 use std::process::ExitCode;
@@ -66,8 +67,8 @@ fn calls_bytes(history: &mut History) -> Vec<u8> {
 fn start_bytes(call: &Start, flash: &[u8]) -> Vec<u8> {
     let mut bytes = vec![b'S'];
     bytes.extend((call.lent as u32).to_le_bytes());
-    bytes.extend(u32::from(call.a).to_le_bytes());
-    bytes.extend(u32::from(call.b).to_le_bytes());
+    bytes.extend(call.a.to_le_bytes());
+    bytes.extend(call.b.to_le_bytes());
     bytes.extend(call.part0.to_le_bytes());
     bytes.extend(call.part1.to_le_bytes());
     bytes.extend(flash);
@@ -107,41 +108,14 @@ fn change_bytes(before: &[u8], after: &[u8]) -> Vec<u8> {
     bytes
 }
 
-/// The session as the header's struct lies, with zeros for its padding.
+/// The session as the header's struct lies.
 fn session_bytes(session: &Session) -> Vec<u8> {
-    let phase = [session.state, session.status, session.after, 0];
-    let upload = [session.up_choice, session.up_prefix, 0, 0];
-    let mut bytes = words(&[session.a, session.b, session.part0, session.part1]);
-    bytes.extend(phase);
-    bytes.extend(words(&[session.down_place, session.down_left]));
-    bytes.extend(upload);
-    bytes.extend(words(&[session.up_first, session.up_len, session.up_place]));
-    bytes.extend(words(&session.sums));
-    bytes.extend(session.whole.to_le_bytes());
-    bytes
-}
-
-fn words(numbers: &[u32]) -> Vec<u8> {
-    numbers
-        .iter()
-        .flat_map(|number| number.to_le_bytes())
-        .collect()
+    layout::Session::from(session).bytes()
 }
 
 #[cfg(test)]
 mod tests {
     use super::*;
-
-    #[test]
-    fn a_session_has_304_bytes() {
-        let session = Session {
-            b: 0x0102_0304,
-            whole: 9,
-            ..Session::zeros()
-        };
-        let bytes = session_bytes(&session);
-        assert_eq!((bytes.len(), bytes[4], bytes[300]), (304, 4, 9));
-    }
 
     #[test]
     fn a_change_reaches_from_first_to_last() {

@@ -85,7 +85,7 @@ fn noise(length: usize) -> Vec<u8> {
 
 /// The session of a start over this flash.
 fn started(flash: &[u8]) -> Session {
-    start(flash, FIRST, BLOCKS, 0, 0).session
+    start(flash, FIRST.into(), BLOCKS.into(), 0, 0).session
 }
 
 /// One DNLOAD through the proved loader.

@@ -2,10 +2,24 @@
 //! every field of the session, every byte of flash and reply. The first
 //! difference ends the run.
 
+#[path = "differ/commands.rs"]
+mod commands;
 #[path = "differ/compare.rs"]
 mod compare;
+#[path = "differ/pieces.rs"]
+mod pieces;
+#[path = "differ/rows.rs"]
+mod rows;
+#[path = "differ/seen.rs"]
+mod seen;
+#[path = "differ/starts.rs"]
+mod starts;
 #[path = "differ/tally.rs"]
 mod tally;
+#[path = "differ/unfit.rs"]
+mod unfit;
+#[path = "differ/uploads.rs"]
+mod uploads;
 
 use compare::Pair;
 use std::process::ExitCode;
@@ -13,17 +27,19 @@ use std::time::{Duration, Instant};
 use tally::Tally;
 
 const HELP: &str = "\
-differ [--seed N] [--first N] [--requests N | --soak]
+differ [--seed N] [--first N] [--requests N | --soak] [--rows]
   --seed N      the seed of all histories (default 20261115)
   --first N     the number of the first history (default 0)
   --requests N  stop after the history in which the Nth request falls (default 450000)
-  --soak        go on until stopped, with a line of progress each second";
+  --soak        go on until stopped, with a line of progress each second
+  --rows        say how often each row of the paper was met";
 
 struct Asked {
     seed: u64,
     first: u64,
     requests: u64,
     soak: bool,
+    rows: bool,
 }
 
 fn main() -> ExitCode {
@@ -47,12 +63,17 @@ fn asked_in(words: &[String]) -> Result<Asked, String> {
         first: 0,
         requests: 450_000,
         soak: false,
+        rows: false,
     };
     let mut words = words.iter();
     while let Some(word) = words.next() {
         let place = match word.as_str() {
             "--soak" => {
                 asked.soak = true;
+                continue;
+            }
+            "--rows" => {
+                asked.rows = true;
                 continue;
             }
             "--seed" => &mut asked.seed,
@@ -88,19 +109,23 @@ fn run(asked: &Asked) -> ExitCode {
             break;
         }
     }
+    if asked.rows {
+        tally
+            .rows()
+            .for_each(|(name, count)| println!("{count:8} {name}"));
+    }
     finish(&tally)
 }
 
-/// A run that never met some answer, state or status has compared too little.
+/// A run that never met some row of the paper has compared too little.
 fn finish(tally: &Tally) -> ExitCode {
-    println!("{tally}");
-    match tally.missed() {
-        None => ExitCode::SUCCESS,
-        Some(missed) => {
-            println!("no difference, but never met: {missed}");
-            ExitCode::FAILURE
-        }
+    let missed = tally.missed();
+    if missed.is_empty() {
+        println!("{tally}");
+        return ExitCode::SUCCESS;
     }
+    println!("no difference, but never met: {}", missed.join("; "));
+    ExitCode::FAILURE
 }
 
 #[cfg(test)]
@@ -118,6 +143,7 @@ mod tests {
             .ok()
             .unwrap();
         assert_eq!((asked.seed, asked.first, asked.soak), (7, 9, true));
+        assert!(!asked.rows && read(&["--rows"]).is_ok_and(|asked| asked.rows));
         assert_eq!(asked.requests, 450_000);
         assert!(read(&["--seed"]).is_err_and(|word| word == "--seed wants a number"));
         assert!(read(&["--requests", "x"]).is_err());
@@ -125,12 +151,12 @@ mod tests {
     }
 
     #[test]
-    fn two_thousand_requests_agree_and_meet_everything() {
+    fn two_thousand_requests_agree_and_meet_most() {
         let mut tally = Tally::new();
         for number in 0..20 {
             assert_eq!(Pair::new(3, number).play(&mut tally), Ok(()));
         }
         assert!(tally.requests >= 2_000);
-        assert_eq!(tally.missed(), None);
+        assert!(tally.missed().len() < tally.rows().count() / 4);
     }
 }

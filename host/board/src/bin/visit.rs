@@ -48,7 +48,7 @@ fn run(words: impl Iterator<Item = OsString>, out: impl Write, live: bool) -> Re
     let mut screen = Screen::new(out, live);
     let went = match words::parse(words).map_err(End::Usage)? {
         Wish::Help => {
-            screen.line(words::HELP);
+            screen.line(&words::help());
             Ok(())
         }
         Wish::Visit(words) => {

@@ -1,5 +1,6 @@
 //! The two loaders side by side through one history.
 
+use crate::seen::Seen;
 use crate::tally::Tally;
 use mullirim_board::{request, start, Session};
 use mullirim_host::histories::{Call, History, Start, REPLY_ROOM};
@@ -56,12 +57,14 @@ impl Pair {
         let reply = &mut self.reply[..call.room];
         let answer = request(&mut session, flash, &call.setup, &call.data, reply);
         let awaited = self.history.serve(call, &mut self.awaited);
-        tally.request(&call.session, &awaited);
+        tally.requests += 1;
         same("answer", &answer.code, &u32::from(awaited.answer))?;
         same("count", &answer.count, &awaited.count)?;
         same_session(&session, &awaited.session)?;
         same_bytes("flash", &self.flash, &self.history.flash)?;
-        same_bytes("reply", &self.reply, &self.awaited)
+        same_bytes("reply", &self.reply, &self.awaited)?;
+        tally.agreed(&Seen::new(call, &awaited, &self.history.flash));
+        Ok(())
     }
 }
 

@@ -1,32 +1,25 @@
 //! What a run has met, so that one which met too little is not called a success.
 
+use crate::rows::Rows;
+use crate::seen::Seen;
+use crate::starts::Starts;
 use mullirim_host::histories::Start;
-use mullirim_host::second::{Outcome, Session};
+use mullirim_host::second::answer;
 use std::collections::HashSet;
 use std::fmt;
 
 const ANSWERS: [&str; 5] = ["taken", "stalled", "unfit", "faulted", "reset asked"];
-/// Each state with the answers that it can give.
-const STATES: [(u8, &[usize]); 6] = [
-    (2, &[0, 1, 2, 3, 4]),
-    (3, &[0, 1, 2]),
-    (5, &[0, 1, 2, 3]),
-    (6, &[0, 1, 2]),
-    (9, &[0, 1, 2]),
-    (10, &[0, 1, 2]),
-];
-const STATUSES: [u8; 5] = [0x05, 0x08, 0x09, 0x0B, 0x0F];
 
 pub struct Tally {
     pub requests: u64,
     starts: u64,
     refused_starts: u64,
-    splits: HashSet<(u16, u16)>,
+    wide_starts: u64,
+    splits: HashSet<(u32, u32)>,
     answers: [u64; 5],
     unfit_sessions: u64,
-    /// By the state that the request met and its answer.
-    met: [[u64; 5]; 6],
-    statuses: [u64; 5],
+    start_rows: Starts,
+    rows: Rows,
 }
 
 impl Tally {
@@ -35,62 +28,41 @@ impl Tally {
             requests: 0,
             starts: 0,
             refused_starts: 0,
+            wide_starts: 0,
             splits: HashSet::new(),
             answers: [0; 5],
             unfit_sessions: 0,
-            met: [[0; 5]; 6],
-            statuses: [0; 5],
+            start_rows: Starts::new(),
+            rows: Rows::new(),
         }
     }
 
     pub fn start(&mut self, call: &Start, answer: u8) {
         self.starts += 1;
+        self.wide_starts += u64::from(call.a.max(call.b) > 65_535);
         match answer {
-            0 => _ = self.splits.insert((call.a, call.b)),
+            answer::TAKEN => _ = self.splits.insert((call.a, call.b)),
             _ => self.refused_starts += 1,
         }
+        self.start_rows.see(call, answer);
     }
 
-    pub fn request(&mut self, session: &Session, outcome: &Outcome) {
-        let answer = usize::from(outcome.answer);
-        self.requests += 1;
-        self.answers[answer] += 1;
-        self.unfit_sessions += u64::from(!session.fits());
-        if let Some(state) = STATES.iter().position(|(state, _)| *state == session.state) {
-            self.met[state][answer] += 1;
-        }
-        // A status counts where it is set, not where a lent session had it.
-        let set = outcome.session != *session && outcome.session.state == 10;
-        let left = outcome.session.status;
-        match STATUSES.iter().position(|status| *status == left) {
-            Some(status) if set => self.statuses[status] += 1,
-            _ => {}
-        }
+    /// A request on which the two loaders agreed.
+    pub fn agreed(&mut self, seen: &Seen) {
+        self.answers[usize::from(seen.outcome.answer)] += 1;
+        self.unfit_sessions += u64::from(!seen.lent().fits());
+        self.rows.see(seen);
     }
 
-    /// Something that every run of some length must meet, and this one didn't:
-    /// each answer that a state can give, each status, an unfit session, a
-    /// refused start.
-    pub fn missed(&self) -> Option<String> {
-        let answers = STATES
-            .iter()
-            .zip(&self.met)
-            .flat_map(|((state, due), met)| {
-                due.iter().map(move |answer| {
-                    (
-                        format!("{} in state {state}", ANSWERS[*answer]),
-                        met[*answer],
-                    )
-                })
-            });
-        let statuses = STATUSES.iter().zip(self.statuses);
-        let statuses = statuses.map(|(status, count)| (format!("status {status:02X}"), count));
-        let others = [
-            ("an unfit session".to_string(), self.unfit_sessions),
-            ("a refused start".to_string(), self.refused_starts),
-        ];
-        let mut all = answers.chain(statuses).chain(others);
-        all.find(|(_, count)| *count == 0).map(|(name, _)| name)
+    /// Every row of the paper, with how often it was met.
+    pub fn rows(&self) -> impl Iterator<Item = (String, u64)> + '_ {
+        self.start_rows.counts().chain(self.rows.counts())
+    }
+
+    /// The rows that this run didn't meet.
+    pub fn missed(&self) -> Vec<String> {
+        let never = self.rows().filter(|(_, count)| *count == 0);
+        never.map(|(name, _)| name).collect()
     }
 }
 
@@ -101,15 +73,21 @@ impl fmt::Display for Tally {
             .zip(self.answers)
             .map(|(name, count)| format!("{count} {name}"))
             .collect();
-        write!(
+        writeln!(
             out,
-            "{} requests ({} of them with an unfit session), {} starts ({} refused) on {} splits: {}. No difference.",
+            "{} requests ({} of them with an unfit session): {}.",
             self.requests,
             self.unfit_sessions,
+            answers.join(", ")
+        )?;
+        write!(
+            out,
+            "{} starts ({} refused, {} with A or B over 65,535) on {} splits. {} rows of the paper, each met. No difference.",
             self.starts,
             self.refused_starts,
+            self.wide_starts,
             self.splits.len(),
-            answers.join(", ")
+            self.rows().count()
         )
     }
 }
@@ -120,20 +98,34 @@ mod tests {
 
     #[test]
     fn nothing_met_is_all_missed() {
-        assert_eq!(Tally::new().missed(), Some("taken in state 2".to_string()));
+        let tally = Tally::new();
+        assert_eq!(tally.missed().len(), tally.rows().count());
+        assert_eq!(tally.missed()[0], "start: A is 1");
     }
 
     #[test]
-    fn what_was_not_met_is_named() {
+    fn a_start_is_counted_in_its_rows() {
         let mut tally = Tally::new();
-        tally.met = [[1; 5]; 6];
-        tally.unfit_sessions = 1;
-        tally.refused_starts = 1;
-        tally.statuses = [1, 1, 0, 1, 1];
-        assert_eq!(tally.missed(), Some("status 09".to_string()));
-        tally.statuses[2] = 1;
-        assert_eq!(tally.missed(), None);
-        tally.refused_starts = 0;
-        assert_eq!(tally.missed(), Some("a refused start".to_string()));
+        let start = Start {
+            lent: 2_048,
+            a: 65_537,
+            b: 2,
+            part0: 0,
+            part1: 0,
+        };
+        tally.start(&start, answer::UNFIT);
+        let met: Vec<_> = tally.rows().filter(|(_, count)| *count > 0).collect();
+        assert_eq!(met, [("start refused: A fits in 16 bits".to_string(), 1)]);
+        assert_eq!(
+            (tally.starts, tally.refused_starts, tally.wide_starts),
+            (1, 1, 1)
+        );
+    }
+
+    #[test]
+    fn rows_have_names_of_their_own() {
+        let tally = Tally::new();
+        let names: HashSet<_> = tally.rows().map(|(name, _)| name).collect();
+        assert_eq!(names.len(), tally.rows().count());
     }
 }

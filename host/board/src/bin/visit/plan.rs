@@ -163,18 +163,20 @@ mod tests {
     }
 
     #[test]
-    fn a_flash_is_two_to_64_whole_blocks() {
-        for bytes in [2_048, 3_072, 65_536] {
+    fn a_flash_is_two_to_the_most_whole_blocks() {
+        for bytes in [2_048, 3_072, MOST_BYTES] {
             assert_eq!(fit_flash(bytes), Ok(()));
         }
-        let rule = "it has 2 to 64 whole blocks of 1,024 bytes";
+        let rule = format!("it has 2 to {MOST_BLOCKS} whole blocks of 1,024 bytes");
+        let short = format!("{} bytes", grouped(MOST_BYTES - 1));
+        let over = format!("more than {} bytes", grouped(MOST_BYTES));
         for (bytes, said) in [
             (0, "0 bytes"),
             (1, "1 byte"),
             (1_000, "1,000 bytes"),
             (1_024, "1,024 bytes"),
-            (65_535, "65,535 bytes"),
-            (65_537, "more than 65,536 bytes"),
+            (MOST_BYTES - 1, &short),
+            (MOST_BYTES + 1, &over),
         ] {
             assert_eq!(
                 fit_flash(bytes),
@@ -208,7 +210,8 @@ mod tests {
         assert_eq!(fit_image(2_048, 2_048), Ok(()));
         let empty = "the image is empty; a download has at least 1 byte";
         assert_eq!(fit_image(0, 2_048), Err(empty.to_string()));
-        for (bytes, said) in [(2_049, "2,049 bytes"), (65_537, "more than 65,536 bytes")] {
+        let over = format!("more than {} bytes", grouped(MOST_BYTES));
+        for (bytes, said) in [(2_049, "2,049 bytes"), (MOST_BYTES + 1, &over)] {
             let why = format!("the image has {said}, and the application holds 2,048 bytes");
             assert_eq!(fit_image(bytes, 2_048), Err(why));
         }

@@ -2,8 +2,8 @@
 
 use crate::screen::{counted, Screen};
 use crate::wire::Wire;
-use mullirim_board::{Sums, MOST_BLOCKS};
-use mullirim_host::second::{sum, BLOCK};
+use mullirim_board::Sums;
+use mullirim_host::second::{sum, BLOCK, MOST_BLOCKS};
 use std::io::Write;
 
 /// Shows the blocks whose sums changed, and the whole sum.

@@ -15,8 +15,8 @@ impl Wire {
     /// Starts the board on a flash whose application begins at block `first`.
     pub fn start(flash: Vec<u8>, first: u16) -> Result<Wire, String> {
         // A flash of too many blocks is the start's to refuse.
-        let blocks = u16::try_from(flash.len() / BLOCK as usize).unwrap_or(u16::MAX);
-        let started = start(&flash, first, blocks, 0, 0);
+        let blocks = u32::try_from(flash.len() / BLOCK as usize).unwrap_or(u32::MAX);
+        let started = start(&flash, first.into(), blocks, 0, 0);
         if started.code != u32::from(answer::TAKEN) {
             return Err(format!("the start was {}", answered(started.code)));
         }
@@ -113,6 +113,7 @@ fn hex(bytes: &[u8]) -> String {
 #[cfg(test)]
 mod tests {
     use super::*;
+    use mullirim_host::second::MOST_BLOCKS;
 
     fn wire() -> Wire {
         Wire::start(vec![0x5A; 4_096], 2).unwrap()
@@ -137,7 +138,8 @@ mod tests {
     #[test]
     fn a_start_that_does_not_fit_is_named() {
         let why = "the start was answered 2 (unfit) and not 0 (taken)";
-        for (flash, first) in [(4_096, 4), (4_096, 0), (1_000, 1), (66_560, 1)] {
+        let over = (MOST_BLOCKS + 1) * BLOCK as usize;
+        for (flash, first) in [(4_096, 4), (4_096, 0), (1_000, 1), (over, 1)] {
             let started = Wire::start(vec![0; flash], first);
             assert_eq!(started.err(), Some(why.to_string()));
         }

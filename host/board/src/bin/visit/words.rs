@@ -1,16 +1,17 @@
 //! The words of the command line.
 
+use mullirim_host::second::MOST_BLOCKS;
 use std::ffi::OsString;
 use std::os::unix::fs::MetadataExt;
 use std::path::{absolute, Path, PathBuf};
 
-pub const HELP: &str = "\
+const HELP: &str = "\
 visit: a technician's visit on a simulated board
 
 It starts the loader on a flash, reads the application back, erases it,
 downloads the corrected image and shows which block sums changed.
 
-  --flash FILE   the flash to start on: 2 to 64 blocks of 1,024 bytes
+  --flash FILE   the flash to start on: 2 to MOST blocks of 1,024 bytes
                  (without it: a built-in flash of 64 blocks, old tariff)
   --image FILE   the corrected image, at most as long as the application
                  (without it: the built-in image, two prices corrected,
@@ -22,6 +23,10 @@ downloads the corrected image and shows which block sums changed.
 
 Without --save and --after no file is written. Files that stand there
 already are written over. Exit: 0 done, 1 refused or failed, 2 wrong flags.";
+
+pub fn help() -> String {
+    HELP.replace("MOST", &MOST_BLOCKS.to_string())
+}
 
 /// What the command line asks for.
 #[derive(Debug, PartialEq)]
@@ -140,8 +145,9 @@ fn file(flag: &str, value: Option<OsString>) -> Result<PathBuf, String> {
 fn block(flag: &str, value: Option<OsString>) -> Result<u16, String> {
     let word = value_of(value).ok_or_else(|| format!("{flag} needs a block number"))?;
     let text = word.to_string_lossy();
+    let last = MOST_BLOCKS - 1;
     text.parse()
-        .map_err(|_| format!("{flag} takes a block number from 1 to 63, and '{text}' is none"))
+        .map_err(|_| format!("{flag} takes a block number from 1 to {last}, and '{text}' is none"))
 }
 
 #[cfg(test)]
@@ -204,7 +210,8 @@ mod tests {
     #[test]
     fn a_split_is_a_number() {
         for word in ["two", "1.5", "-1", "0x10", "65536", "99999999999999999999"] {
-            let message = "--split takes a block number from 1 to 63, and";
+            let last = MOST_BLOCKS - 1;
+            let message = format!("--split takes a block number from 1 to {last}, and");
             refused(&["--split", word], &format!("{message} '{word}' is none"));
         }
     }
