@@ -2,7 +2,7 @@
 use Prim.Native.Nat.{ℕ, _+_, _*_, _-_, _≤_, _<_}
 use native.Mathlib.Decide.{ℕ-discrete}
 use native.Mathlib.Omega.{arith}
-use mathlib.Core.Path.{_≡_, refl, ap, ap₂}
+use mathlib.Core.Path.{_≡_, refl, sym, ap, ap₂, _∙_}
 use mathlib.Core.Logic.{_⊎_, inl, inr, ⊎-elim}
 use mathlib.Core.Bool.{Bool, true, false, not, _&&_, _||_, false≢true}
 use lib.Dec.{eqb, leb, ltb}
@@ -16,14 +16,15 @@ use Rattle.session.specs.declared.Download.{Download}
 use Rattle.session.specs.declared.Upload.{Upload}
 use Rattle.session.specs.declared.Session.{Session}
 use Rattle.session.specs.Codes.{idle, downloadSync, downloadIdle, manifestSync, uploadIdle, error}
-use Rattle.session.specs.Codes.{knownState, ok, errorStatus}
+use Rattle.session.specs.Codes.{knownState, ok, checkErased, address, notDone, vendor, stalled, errorStatus}
 use Rattle.session.specs.Session.{appEnd, noDownload, downOf, withSums, wholeUpload, freshOf, zerosOf}
 use Rattle.session.specs.Session.{flashStream, infoBytes, infoLength, prefixLength, streamLength}
 use Rattle.session.specs.Rules.{inApplication, splitRule, stateRule, statusRule, running, downloadRule, uploadRule}
 use Rattle.session.specs.Rules.{afterRule, rangeRule, placeRule, flagsRule, fitOf}
 use Rattle.session.specs.Fit.{Inside, Fit, OneOfSix, is-idle, is-download-sync, is-download-idle, is-manifest-sync}
-use Rattle.session.specs.Fit.{is-upload-idle, is-error}
-use Rattle.session.proofs.Tests.{left-of, right-of, either, unless, or-unless, where-true, or-where, pick-most}
+use Rattle.session.specs.Fit.{is-upload-idle, is-error, Running}
+use Rattle.session.specs.Fit.{ErrorStatus, is-check-erased, is-address, is-not-done, is-vendor, is-stalled}
+use Rattle.session.proofs.Tests.{left-of, right-of, either, one-of, never-true, unless, or-unless, where-true, or-where, pick-most}
 
 -- the rules one by one
 pub record Kept (s : Session) : Type 0 where
@@ -157,11 +158,52 @@ module _ (b : Board) where
   unfolding appEnd
   end-after-start e = split-facts e .1
 
+-- the test of a status of state error says what the words say
+pub error-status : (n : ℕ) → errorStatus n ≡ true → ErrorStatus n
+error-status n =
+    let at5 = eqb n checkErased in
+    let at8 = eqb n address in
+    let at9 = eqb n notDone in
+    let at11 = eqb n vendor in
+    one-of (at5 || at8 || at9 || at11) (eqb n stalled)
+    (one-of (at5 || at8 || at9) at11
+    (one-of (at5 || at8) at9
+    (one-of at5 at8 (λ h. is-check-erased (eqb-true _ _ h)) (λ h. is-address (eqb-true _ _ h)))
+    (λ h. is-not-done (eqb-true _ _ h)))
+    (λ h. is-vendor (eqb-true _ _ h)))
+    (λ h. is-stalled (eqb-true _ _ h))
+
+pub status-error : (n : ℕ) → ErrorStatus n → errorStatus n ≡ true
+status-error n (is-check-erased e) = rw e
+status-error n (is-address e) = rw e
+status-error n (is-not-done e) = rw e
+status-error n (is-vendor e) = rw e
+status-error n (is-stalled e) = rw e
+
+-- the test whether a download runs says what the words say
+module _ (p : Phase) where
+  pub running-true : running p ≡ true → Running p
+  running-true e =
+      let sync = eqb (p .state .0) downloadSync in
+      let on = eqb (p .after .0) downloadIdle in
+      ⊎-elim (λ h. inl (eqb-true _ _ h)) (λ h. inr (eqb-true _ _ (left-of sync on h), eqb-true _ _ (right-of sync on h)))
+      (either (eqb (p .state .0) downloadIdle) (sync && on) e)
+
+  pub running-words : Running p → running p ≡ true
+  running-words (inl h) = rw h
+  running-words (inr h) = rw (h .0, h .1)
+
+  pub not-running : (Running p → ⊥) → running p ≡ false
+  not-running n = never-true (running p) (λ e. n (running-true e))
+
+  pub running-false : running p ≡ false → Running p → ⊥
+  running-false e r = false≢true (sym e ∙ running-words r)
+
 -- what the rules of the phase say
 module _ (p : Phase) where
   StatusFacts : Type 0
   StatusFacts =
-      ((p .state .0 ≡ error → ⊥) → p .status .0 ≡ ok) × (p .state .0 ≡ error → errorStatus (p .status .0) ≡ true)
+      ((p .state .0 ≡ 10 → ⊥) → p .status .0 ≡ 0) × (p .state .0 ≡ 10 → ErrorStatus (p .status .0))
 
   status-facts : statusRule p ≡ true → StatusFacts
   unfolding StatusFacts
@@ -170,7 +212,7 @@ module _ (p : Phase) where
       let none = eqb (p .status .0) ok in
       let one = errorStatus (p .status .0) in (
         λ n. eqb-true _ _ (unless at none (left-of (at || none) (not at || one) e) (ne-eqb _ _ n)),
-        λ h. where-true at one (right-of (at || none) (not at || one) e) (eq-eqb _ _ h),
+        λ h. error-status _ (where-true at one (right-of (at || none) (not at || one) e) (eq-eqb _ _ h)),
       )
 
   after-others : afterRule p ≡ true → (p .state .0 ≡ downloadSync → ⊥) → p .after .0 ≡ idle
@@ -187,11 +229,11 @@ module _ (p : Phase) where
       ⊎-elim (λ h. inl (eqb-true _ _ h)) (λ h. inr (eqb-true _ _ (right-of sync on h)))
       (either (eqb (p .after .0) idle) (sync && on) e)
 
-  no-download : (d : Download) → downloadRule p d ≡ true → running p ≡ false → d ≡ noDownload
-  no-download d e h =
+  no-download : (d : Download) → downloadRule p d ≡ true → (Running p → ⊥) → d ≡ noDownload
+  no-download d e n =
       let no-place = eqb (d .place .0) 0 in
       let none-left = eqb (d .left) 0 in
-      let z = unless (running p) (no-place && none-left) e h in
+      let z = unless (running p) (no-place && none-left) e (not-running p n) in
       ap₂ downOf (eqb-true _ _ (left-of no-place none-left z)) (eqb-true _ _ (right-of no-place none-left z))
 
 -- what it says that a range lies in the application
@@ -236,13 +278,13 @@ module _ (b : Board) (p : Phase) (d : Download) where
       × (d .place .0 ≤ startOf (appEnd b))
       × (d .place .0 + d .left ≤ startOf (appEnd b))
 
-  place-facts : placeRule b p d ≡ true → running p ≡ true → PlaceFacts
+  place-facts : placeRule b p d ≡ true → Running p → PlaceFacts
   unfolding PlaceFacts
   place-facts e r =
       let begins = leb (startOf (b .a .0)) (d .place .0) in
       let ends = leb (d .place .0) (startOf (appEnd b)) in
       let fits = leb (d .place .0 + d .left) (startOf (appEnd b)) in
-      let w = where-true (running p) (begins && ends && fits) e r in
+      let w = where-true (running p) (begins && ends && fits) e (running-words p r) in
       let l = left-of (begins && ends) fits w in (
         leb-true _ _ (left-of begins ends l),
         leb-true _ _ (right-of begins ends l),
@@ -294,13 +336,13 @@ module _ (s : Session) (f : Fit s) where
       let at = eqb (s .phase .state .0) error in
       rw (
         or-unless at (eqb (s .phase .status .0) ok) (λ n. eq-eqb _ _ (f .status-outside (eqb-false _ _ n))),
-        or-where at (errorStatus (s .phase .status .0)) (λ h. f .status-inside (eqb-true _ _ h)),
+        or-where at (errorStatus (s .phase .status .0)) (λ h. status-error _ (f .status-inside (eqb-true _ _ h))),
       )
 
   download-kept : downloadRule (s .phase) (s .down) ≡ true
   download-kept =
       let zero : Download → Bool = λ d. eqb (d .place .0) 0 && eqb (d .left) 0 in
-      or-unless (running (s .phase)) (zero (s .down)) (λ n. ap zero (f .no-download n))
+      or-unless (running (s .phase)) (zero (s .down)) (λ n. ap zero (f .no-download (running-false (s .phase) n)))
 
   upload-kept : uploadRule (s .phase) (s .up) ≡ true
   upload-kept =
@@ -320,7 +362,9 @@ module _ (s : Session) (f : Fit s) where
   place-kept : placeRule (s .board) (s .phase) (s .down) ≡ true
   place-kept =
       or-where (running (s .phase)) _
-      (λ r. rw (le-leb _ _ (f .place-from r), le-leb _ _ (f .place-to r), le-leb _ _ (f .left-to r)))
+      (λ e.
+      let r = running-true (s .phase) e in
+      rw (le-leb _ _ (f .place-from r), le-leb _ _ (f .place-to r), le-leb _ _ (f .left-to r)))
 
 -- a session that has all the facts is fit
 pub facts-fit : (s : Session) → Fit s → fitOf s ≡ true
