@@ -4,7 +4,7 @@ use mathlib.Core.Bool.{Bool, true, false, not, cond, _&&_, _||_}
 use mathlib.Core.List.{List}
 use lib.Dec.{eqb, leb}
 use lib.ListN.{length, getD}
-use Rattle.session.specs.Codes.{idle, downloadSync, downloadIdle, manifestSync, uploadIdle, error, knownState}
+use Rattle.session.specs.Codes.{idle, downloadIdle, uploadIdle, error, knownState}
 use Rattle.request.specs.declared.Setup.{Setup}
 use Rattle.request.specs.declared.Request.{Request}
 use Rattle.request.specs.declared.Request.the-variants.{Dnload, Upload, GetStatus, ClrStatus}
@@ -91,13 +91,3 @@ rowOf GetState = 4
 rowOf Abort = 5
 rowOf Query = 6
 rowOf Nothing = 7
-
--- its columns, in the order of the states; 6 for no state
-unfoldable pub columnOf : ℕ → ℕ
-columnOf state =
-    cond (eqb state idle) 0
-    (cond (eqb state downloadSync) 1
-    (cond (eqb state downloadIdle) 2
-    (cond (eqb state manifestSync) 3
-    (cond (eqb state uploadIdle) 4
-    (cond (eqb state error) 5 6)))))

@@ -4,7 +4,7 @@ ghost use mathlib.Core.Path.{_≡_};
 ghost use Prim.Native.Nat.{_+_, _<_};
 ghost use lib.ListN.{length};
 ghost use Rattle.request.specs.Request.{wordAt, setupOf, hasForm, inForm, formOf, requestOf, wLength, dataAsked};
-ghost use Rattle.request.specs.Request.{allowedOf, rowOf, columnOf};
+ghost use Rattle.request.specs.Request.{allowedOf, rowOf};
 
 pub enum Request {
     Dnload,
@@ -31,8 +31,8 @@ const OUT: u8 = 0x21;
 
 const IN: u8 = 0xA1;
 
-// Which request is allowed in which state: a row for each request of the enum, a column for each state by its number.
-const ALLOWED: [[bool; 6]; 7] = [
+// Which request is allowed in which state: a row for each request of the enum, a column for each state.
+const ALLOWED: [[bool; State::COUNT]; 7] = [
     [true, false, true, false, false, false],
     [true, false, false, false, true, false],
     [true, true, true, true, true, true],
@@ -167,31 +167,16 @@ fn row(r: Request) -> usize
     }
 }
 
-fn column(s: State) -> usize
-    ensures { λ j. ⌜ j ≡ columnOf (s .0) ⌝ }
-{
-    let state = s.0;
-    match state {
-        State::IDLE => 0,
-        State::DOWNLOAD_SYNC => 1,
-        State::DOWNLOAD_IDLE => 2,
-        State::MANIFEST_SYNC => 3,
-        State::UPLOAD_IDLE => 4,
-        State::ERROR => 5,
-        _ => 6,
-    }
-}
-
 // What the table says, which is of requests that bring a byte.
 fn in_table(r: Request, s: State) -> bool
     ensures { λ a. ⌜ a ≡ allowedOf r 1 (s .0) ⌝ }
 {
     let i = row(r);
-    let j = column(s);
+    let j = s.column();
     if 7 <= i {
         return false;
     }
-    if 6 <= j {
+    if State::COUNT <= j {
         return false;
     }
     ALLOWED[i][j]

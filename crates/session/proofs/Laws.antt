@@ -1,12 +1,14 @@
 -- Laws of the session: fit is what its facts say, zeros are unfit, the fresh session is fit.
-use Prim.Native.Nat.{ℕ, _+_, _*_, _-_, _≤_, _<_}
-use native.Mathlib.Decide.{ℕ-discrete}
+use Prim.Native.Nat.{ℕ, suc, _+_, _*_, _-_, _≤_, _<_}
+use native.Mathlib.Decide.{ℕ-discrete, decLt}
 use native.Mathlib.Omega.{arith}
 use mathlib.Core.Path.{_≡_, refl, sym, ap, ap₂, _∙_}
 use mathlib.Core.Logic.{_⊎_, inl, inr, ⊎-elim}
-use mathlib.Core.Bool.{Bool, true, false, not, _&&_, _||_, false≢true}
+use mathlib.Core.Bool.{Bool, true, false, not, cond, _&&_, _||_, false≢true}
+use mathlib.Core.List.{List, [], _∷_, map}
 use lib.Dec.{eqb, leb, ltb}
-use borrow.Author.Tests.{eqb-true, eqb-false, leb-true, ltb-true, eq-eqb, ne-eqb, le-leb, lt-ltb}
+use lib.ListN.{length, getD}
+use borrow.Author.Tests.{eqb-true, eqb-false, leb-true, ltb-true, eq-eqb, ne-eqb, le-leb, lt-ltb, le-ltb}
 use Rattle.flash.specs.Flash.{blockSize, startOf}
 use Rattle.sums.specs.declared.Sums.{Sums}
 use Rattle.sums.specs.Sum.{mostBlocks}
@@ -16,12 +18,13 @@ use Rattle.session.specs.declared.Download.{Download}
 use Rattle.session.specs.declared.Upload.{Upload}
 use Rattle.session.specs.declared.Session.{Session}
 use Rattle.session.specs.Codes.{idle, downloadSync, downloadIdle, manifestSync, uploadIdle, error}
-use Rattle.session.specs.Codes.{knownState, ok, checkErased, address, notDone, vendor, stalled, errorStatus}
+use Rattle.session.specs.Codes.{states, isIn, placeIn, knownState, columnOf}
+use Rattle.session.specs.Codes.{ok, checkErased, address, notDone, vendor, stalled, errorStatus}
 use Rattle.session.specs.Session.{appEnd, noDownload, downOf, withSums, wholeUpload, freshOf, zerosOf}
 use Rattle.session.specs.Session.{flashStream, infoBytes, infoLength, prefixLength, streamLength}
 use Rattle.session.specs.Rules.{inApplication, splitRule, stateRule, statusRule, running, downloadRule, uploadRule}
 use Rattle.session.specs.Rules.{afterRule, rangeRule, placeRule, flagsRule, fitOf}
-use Rattle.session.specs.Fit.{Inside, Fit, OneOfSix, is-idle, is-download-sync, is-download-idle, is-manifest-sync}
+use Rattle.session.specs.Fit.{Inside, Fit, KnownState, is-idle, is-download-sync, is-download-idle, is-manifest-sync}
 use Rattle.session.specs.Fit.{is-upload-idle, is-error, Running}
 use Rattle.session.specs.Fit.{ErrorStatus, is-check-erased, is-address, is-not-done, is-vendor, is-stalled}
 use Rattle.session.proofs.Tests.{left-of, right-of, either, one-of, never-true, unless, or-unless, where-true, or-where, pick-most}
@@ -72,71 +75,55 @@ unfolding fitOf
 kept-fit s k =
     rw (k .split, k .state, k .status, k .download, k .upload, k .after, k .range, k .place, k .flags)
 
--- a number that is none of the six states
-pub record NoState (n : ℕ) : Type 0 where
-  pub not-idle : eqb n idle ≡ false
-  pub not-download-sync : eqb n downloadSync ≡ false
-  pub not-download-idle : eqb n downloadIdle ≡ false
-  pub not-manifest-sync : eqb n manifestSync ≡ false
-  pub not-upload-idle : eqb n uploadIdle ≡ false
-  pub not-error : eqb n error ≡ false
-
--- every number is one of the six states or none of them
-pub which-state : (n : ℕ) → OneOfSix n ⊎ NoState n
-which-state n =
-    elim (ℕ-discrete n idle) [
-      | yes p ↦ inl (is-idle p)
-      | no n1 ↦
-          elim (ℕ-discrete n downloadSync) [
-            | yes p ↦ inl (is-download-sync p)
-            | no n2 ↦
-                elim (ℕ-discrete n downloadIdle) [
-                  | yes p ↦ inl (is-download-idle p)
-                  | no n3 ↦
-                      elim (ℕ-discrete n manifestSync) [
-                        | yes p ↦ inl (is-manifest-sync p)
-                        | no n4 ↦
-                            elim (ℕ-discrete n uploadIdle) [
-                              | yes p ↦ inl (is-upload-idle p)
-                              | no n5 ↦
-                                  elim (ℕ-discrete n error) [
-                                    | yes p ↦ inl (is-error p)
-                                    | no n6 ↦
-                                        inr
-                                        (record {
-                                          not-idle = ne-eqb _ _ n1;
-                                          not-download-sync = ne-eqb _ _ n2;
-                                          not-download-idle = ne-eqb _ _ n3;
-                                          not-manifest-sync = ne-eqb _ _ n4;
-                                          not-upload-idle = ne-eqb _ _ n5;
-                                          not-error = ne-eqb _ _ n6;
-                                        })
-                                  ]
-                            ]
-                      ]
-                ]
-          ]
+-- a column of the table is a state's, and every state has one
+pick-in : (t : Bool) (k m : ℕ) (r : Bool) → ltb k m ≡ r → ltb (cond t 0 (suc k)) (suc m) ≡ (t || r)
+pick-in true k m r e = lt-ltb 0 (suc m) (omega arith)
+pick-in false k m r e =
+    elim (decLt k m) [
+      | yes h ↦ lt-ltb (suc k) (suc m) (omega arith) ∙ sym (lt-ltb k m h) ∙ e
+      | no h ↦ le-ltb (suc k) (suc m) (omega arith) ∙ sym (le-ltb k m (omega arith)) ∙ e
     ]
 
--- what holds at each of the six states holds at a number that is one of them
-pub at-six : (P : ℕ → Type 0) → P 2 → P 3 → P 5 → P 6 → P 9 → P 10 → (n : ℕ) → OneOfSix n → P n
-at-six P p2 p3 p5 p6 p9 p10 n (is-idle e) = rw e p2
-at-six P p2 p3 p5 p6 p9 p10 n (is-download-sync e) = rw e p3
-at-six P p2 p3 p5 p6 p9 p10 n (is-download-idle e) = rw e p5
-at-six P p2 p3 p5 p6 p9 p10 n (is-manifest-sync e) = rw e p6
-at-six P p2 p3 p5 p6 p9 p10 n (is-upload-idle e) = rw e p9
-at-six P p2 p3 p5 p6 p9 p10 n (is-error e) = rw e p10
+in-place : (n : ℕ) (xs : List ℕ) → ltb (placeIn n xs) (length xs) ≡ isIn n xs
+in-place n [] = refl
+in-place n (x ∷ xs) = pick-in (eqb n x) (placeIn n xs) (length xs) (isIn n xs) (in-place n xs)
 
--- a known state is one of six
-pub no-state : (n : ℕ) → NoState n → knownState n ≡ false
-no-state n k =
-    rw (k .not-idle, k .not-download-sync, k .not-download-idle, k .not-manifest-sync, k .not-upload-idle, k .not-error)
+pub column-known : (n : ℕ) → ltb (columnOf n) (length states) ≡ knownState n
+column-known n = in-place n states
 
-pub state-cases : (n : ℕ) → knownState n ≡ true → OneOfSix n
-state-cases n e = ⊎-elim (λ k. k) (λ k. absurd (false≢true (rw (no-state n k) at e))) (which-state n)
+-- what is listed in the order of the states stands at the state's column
+at-place : {A : Type 0} (f : ℕ → A) (d : A) (n : ℕ) (xs : List ℕ) → isIn n xs ≡ true → getD (map f xs) (placeIn n xs) d ≡ f n
+at-place f d n [] e = absurd (false≢true e)
+at-place f d n (x ∷ xs) e =
+    elim (ℕ-discrete n x) [
+      | yes h ↦ rw (eq-eqb n x h) (ap f (sym h))
+      | no h ↦ rw (ne-eqb n x h) (at-place f d n xs (unless (eqb n x) (isIn n xs) e (ne-eqb n x h)))
+    ]
 
-pub cases-state : (n : ℕ) → OneOfSix n → knownState n ≡ true
-cases-state = at-six (λ n. knownState n ≡ true) refl refl refl refl refl refl
+pub at-column : {A : Type 0} (f : ℕ → A) (d : A) (n : ℕ) → knownState n ≡ true → getD (map f states) (columnOf n) d ≡ f n
+at-column f d n = at-place f d n states
+
+-- the test of a state says what the words say
+pub state-cases : (n : ℕ) → knownState n ≡ true → KnownState n
+state-cases n =
+    one-of (eqb n idle) _ (λ h. is-idle (eqb-true _ _ h))
+    (one-of (eqb n downloadSync) _ (λ h. is-download-sync (eqb-true _ _ h))
+    (one-of (eqb n downloadIdle) _ (λ h. is-download-idle (eqb-true _ _ h))
+    (one-of (eqb n manifestSync) _ (λ h. is-manifest-sync (eqb-true _ _ h))
+    (one-of (eqb n uploadIdle) _ (λ h. is-upload-idle (eqb-true _ _ h))
+    (one-of (eqb n error) _ (λ h. is-error (eqb-true _ _ h)) (λ e. absurd (false≢true e)))))))
+
+pub cases-state : (n : ℕ) → KnownState n → knownState n ≡ true
+cases-state n (is-idle e) = rw e
+cases-state n (is-download-sync e) = rw e
+cases-state n (is-download-idle e) = rw e
+cases-state n (is-manifest-sync e) = rw e
+cases-state n (is-upload-idle e) = rw e
+cases-state n (is-error e) = rw e
+
+-- what is no state is none of them
+pub no-state : (n : ℕ) → knownState n ≡ false → KnownState n → ⊥
+no-state n e k = false≢true (sym e ∙ cases-state n k)
 
 -- what the rule of A and B says, and with it of the application's end
 module _ (b : Board) where

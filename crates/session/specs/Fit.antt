@@ -10,13 +10,13 @@ use Rattle.session.specs.declared.Session.{Session}
 use Rattle.session.specs.Session.{appEnd, streamLength, noDownload}
 
 -- a number is a state
-pub data OneOfSix (n : ℕ) : Type 0 where
-  is-idle : n ≡ 2 → OneOfSix n
-  is-download-sync : n ≡ 3 → OneOfSix n
-  is-download-idle : n ≡ 5 → OneOfSix n
-  is-manifest-sync : n ≡ 6 → OneOfSix n
-  is-upload-idle : n ≡ 9 → OneOfSix n
-  is-error : n ≡ 10 → OneOfSix n
+pub data KnownState (n : ℕ) : Type 0 where
+  is-idle : n ≡ 2 → KnownState n
+  is-download-sync : n ≡ 3 → KnownState n
+  is-download-idle : n ≡ 5 → KnownState n
+  is-manifest-sync : n ≡ 6 → KnownState n
+  is-upload-idle : n ≡ 9 → KnownState n
+  is-error : n ≡ 10 → KnownState n
 
 -- a number is a status of state 10
 pub data ErrorStatus (n : ℕ) : Type 0 where
@@ -41,7 +41,7 @@ pub record Fit (s : Session) : Type 0 where
   pub some-loader : 1 ≤ s .board .a .0
   pub some-application : s .board .a .0 < s .board .b .0
   pub few-blocks : s .board .b .0 ≤ mostBlocks
-  pub state : OneOfSix (s .phase .state .0)
+  pub state : KnownState (s .phase .state .0)
   pub status-outside : (s .phase .state .0 ≡ 10 → ⊥) → s .phase .status .0 ≡ 0
   pub status-inside : s .phase .state .0 ≡ 10 → ErrorStatus (s .phase .status .0)
   pub no-download : (Running (s .phase) → ⊥) → s .down ≡ noDownload

@@ -15,7 +15,7 @@ use Rattle.session.specs.Session.{allowedSplit, appEnd, streamLength}
 abbrev pub splitRule : Board → Bool
 splitRule board = allowedSplit (board .a .0) (board .b .0)
 
--- a state of the six
+-- the state is one of the states
 abbrev pub stateRule : Phase → Bool
 stateRule phase = knownState (phase .state .0)
 

@@ -8,6 +8,7 @@ use sums::Sums;
 ghost use mathlib.Core.Path.{_≡_};
 ghost use mathlib.Core.Bool.{true};
 ghost use Rattle.flash.specs.Flash.{startOf};
+ghost use Rattle.session.specs.Codes.{columnOf};
 ghost use Rattle.session.specs.Session.{allowedSplit, boardOf, appEnd, streamLength, freshOf, zerosOf};
 ghost use Rattle.session.specs.Rules.{stateRule, statusRule, running, downloadRule, uploadRule};
 ghost use Rattle.session.specs.Rules.{afterRule, inApplication, rangeRule, placeRule, flagsRule, fitOf};
@@ -32,6 +33,25 @@ impl State {
     pub const UPLOAD_IDLE: u8 = 9;
 
     pub const ERROR: u8 = 10;
+
+    // How many states there are.
+    pub const COUNT: usize = 6;
+
+    // A state's column in tables, counted in the order above; what is no state comes behind them all.
+    pub fn column(self) -> usize
+        ensures { λ r. ⌜ r ≡ columnOf (self .0) ⌝ }
+    {
+        let state = self.0;
+        match state {
+            State::IDLE => 0,
+            State::DOWNLOAD_SYNC => 1,
+            State::DOWNLOAD_IDLE => 2,
+            State::MANIFEST_SYNC => 3,
+            State::UPLOAD_IDLE => 4,
+            State::ERROR => 5,
+            _ => State::COUNT,
+        }
+    }
 }
 
 #[repr(C)]
@@ -213,12 +233,7 @@ pub fn zeros() -> Session
 fn state_rule(phase: Phase) -> bool
     ensures { λ r. ⌜ r ≡ stateRule phase ⌝ }
 {
-    (phase.state.0 == State::IDLE)
-        | (phase.state.0 == State::DOWNLOAD_SYNC)
-        | (phase.state.0 == State::DOWNLOAD_IDLE)
-        | (phase.state.0 == State::MANIFEST_SYNC)
-        | (phase.state.0 == State::UPLOAD_IDLE)
-        | (phase.state.0 == State::ERROR)
+    phase.state.column() < State::COUNT
 }
 
 fn status_rule(phase: Phase) -> bool
