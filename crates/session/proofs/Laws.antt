@@ -92,7 +92,9 @@ pub column-known : (n : ℕ) → ltb (columnOf n) (length states) ≡ knownState
 column-known n = in-place n states
 
 -- what is listed in the order of the states stands at the state's column
-at-place : {A : Type 0} (f : ℕ → A) (d : A) (n : ℕ) (xs : List ℕ) → isIn n xs ≡ true → getD (map f xs) (placeIn n xs) d ≡ f n
+at-place :
+    {A : Type 0} (f : ℕ → A) (d : A) (n : ℕ) (xs : List ℕ) → isIn n xs ≡ true
+    → getD (map f xs) (placeIn n xs) d ≡ f n
 at-place f d n [] e = absurd (false≢true e)
 at-place f d n (x ∷ xs) e =
     elim (ℕ-discrete n x) [
@@ -100,7 +102,8 @@ at-place f d n (x ∷ xs) e =
       | no h ↦ rw (ne-eqb n x h) (at-place f d n xs (unless (eqb n x) (isIn n xs) e (ne-eqb n x h)))
     ]
 
-pub at-column : {A : Type 0} (f : ℕ → A) (d : A) (n : ℕ) → knownState n ≡ true → getD (map f states) (columnOf n) d ≡ f n
+pub at-column :
+    {A : Type 0} (f : ℕ → A) (d : A) (n : ℕ) → knownState n ≡ true → getD (map f states) (columnOf n) d ≡ f n
 at-column f d n = at-place f d n states
 
 -- the test of a state says what the words say
