@@ -1,5 +1,5 @@
 -- Laws of the session: fit is what its facts say, zeros are unfit, the fresh session is fit.
-use Prim.Native.Nat.{ℕ, suc, _+_, _*_, _-_, _≤_, _<_}
+use Prim.Native.Nat.{ℕ, suc, _+_, _*_, _-_, _^_, _≤_, _<_}
 use native.Mathlib.Decide.{ℕ-discrete, decLt}
 use native.Mathlib.Omega.{arith}
 use mathlib.Core.Path.{_≡_, refl, sym, ap, ap₂, _∙_}
@@ -9,7 +9,10 @@ use mathlib.Core.List.{List, [], _∷_, map}
 use lib.Dec.{eqb, leb, ltb}
 use lib.ListN.{length, getD}
 use borrow.Author.Tests.{eqb-true, eqb-false, leb-true, ltb-true, eq-eqb, ne-eqb, le-leb, lt-ltb, le-ltb}
-use Rattle.flash.specs.Flash.{blockSize, startOf}
+use Rattle.flash.specs.Flash.{blockSize, startOf, inReach, reachOf, liesIn}
+use Rattle.flash.specs.declared.Addr.{Addr}
+use Rattle.flash.specs.declared.Reach.{Reach}
+use Rattle.flash.proofs.Reaching.{reached-in, reached, lies-facts, facts-lie}
 use Rattle.sums.specs.declared.Sums.{Sums}
 use Rattle.sums.specs.Sum.{mostBlocks}
 use Rattle.session.specs.declared.Board.{Board}
@@ -227,17 +230,33 @@ module _ (p : Phase) where
       ap₂ downOf (eqb-true _ _ (left-of no-place none-left z)) (eqb-true _ _ (right-of no-place none-left z))
 
 -- what it says that a range lies in the application
-pub inside-facts : (b : Board) (first len : ℕ) → inApplication b first len ≡ true → Inside b first len
-inside-facts b first len e =
-    let some = ltb 0 len in
-    let begins = leb (b .a .0) first in
-    let ends = leb (startOf first + len) (startOf (appEnd b)) in
-    let l = left-of (some && begins) ends e in
-    record {
-      some = ltb-true _ _ (left-of some begins l);
-      from = leb-true _ _ (right-of some begins l);
-      to = leb-true _ _ (right-of (some && begins) ends e);
-    }
+module _ (b : Board) (first len : ℕ) where
+  pub inside-facts : inApplication b first len ≡ true → Inside b first len
+  inside-facts e =
+      let near = inReach first in
+      let some = ltb 0 len in
+      let lies = liesIn (startOf first) len (b .a .0) (appEnd b) in
+      let facts = lies-facts (startOf first) len (b .a .0) (appEnd b) (right-of (near && some) lies e) in
+      record {
+        some = ltb-true _ _ (right-of near some (left-of (near && some) lies e));
+        from = omega arith;
+        to = facts .3;
+      }
+
+  pub facts-inside : startOf (appEnd b) < 2 ^ 32 → Inside b first len → inApplication b first len ≡ true
+  facts-inside near i =
+      rw (
+        lt-ltb (startOf first) (2 ^ 32) (omega (arith, i .to)),
+        lt-ltb 0 len (i .some),
+        facts-lie (startOf first) len (b .a .0) (appEnd b) (omega (arith, i .from)) (i .to) near,
+      )
+
+-- whether a range lies in the application, by its first address
+pub range-lies :
+    (b : Board) (first len : ℕ) (r : Reach) (at : Addr) (end : ℕ) (t : Bool)
+    → r ≡ Reach.At at → r ≡ reachOf first → end ≡ appEnd b → t ≡ liesIn (at .0) len (b .a .0) end
+    → (ltb 0 len && t) ≡ inApplication b first len
+range-lies b first len r at end t e q f g = rw (g, f, reached-in first r at e q, reached first r at e q)
 
 -- what the rules of the upload say
 module _ (b : Board) (p : Phase) (u : Upload) where
@@ -271,15 +290,8 @@ module _ (b : Board) (p : Phase) (d : Download) where
   place-facts : placeRule b p d ≡ true → Running p → PlaceFacts
   unfolding PlaceFacts
   place-facts e r =
-      let begins = leb (startOf (b .a .0)) (d .place .0) in
-      let ends = leb (d .place .0) (startOf (appEnd b)) in
-      let fits = leb (d .place .0 + d .left) (startOf (appEnd b)) in
-      let w = where-true (running p) (begins && ends && fits) e (running-words p r) in
-      let l = left-of (begins && ends) fits w in (
-        leb-true _ _ (left-of begins ends l),
-        leb-true _ _ (right-of begins ends l),
-        leb-true _ _ (right-of (begins && ends) fits w),
-      )
+      let facts = lies-facts (d .place .0) (d .left) (b .a .0) (appEnd b) (where-true (running p) _ e (running-words p r)) in
+      (facts .2, omega arith, facts .3)
 
 -- a fit session has all the facts
 pub fit-facts : (s : Session) → fitOf s ≡ true → Fit s
@@ -349,12 +361,20 @@ module _ (s : Session) (f : Fit s) where
         | no h ↦ rw (f .after-others h)
       ]
 
+  pub fit-near : startOf (appEnd (s .board)) < 2 ^ 32
+  fit-near = omega (arith, f .few-blocks, end-in-flash (s .board))
+
+  range-kept : rangeRule (s .board) (s .up) ≡ true
+  range-kept =
+      facts-inside (s .board) (s .up .first .0) (s .up .len) fit-near
+      (record { some = f .range-some; from = f .range-from; to = f .range-to })
+
   place-kept : placeRule (s .board) (s .phase) (s .down) ≡ true
   place-kept =
       or-where (running (s .phase)) _
       (λ e.
       let r = running-true (s .phase) e in
-      rw (le-leb _ _ (f .place-from r), le-leb _ _ (f .place-to r), le-leb _ _ (f .left-to r)))
+      facts-lie (s .down .place .0) (s .down .left) (s .board .a .0) (appEnd (s .board)) (f .place-from r) (f .left-to r) fit-near)
 
 -- a session that has all the facts is fit
 pub facts-fit : (s : Session) → Fit s → fitOf s ≡ true
@@ -367,7 +387,7 @@ facts-fit s f =
       download = download-kept s f;
       upload = upload-kept s f;
       after = after-kept s f;
-      range = rw (lt-ltb _ _ (f .range-some), le-leb _ _ (f .range-from), le-leb _ _ (f .range-to));
+      range = range-kept s f;
       place = place-kept s f;
       flags = rw (le-leb _ _ (f .choice), le-leb _ _ (f .flag));
     })
@@ -397,11 +417,8 @@ fresh-fit b sums e =
       upload = le-leb 0 (streamLength (wholeUpload b)) (omega arith);
       after = refl;
       range =
-          rw (
-            lt-ltb 0 len (omega arith),
-            le-leb (b .a .0) (b .a .0) (omega arith),
-            le-leb (startOf (b .a .0) + len) (startOf (appEnd b)) (omega arith),
-          );
+          facts-inside b (b .a .0) len (omega (arith, split-facts b e, end-in-flash b))
+          (record { some = omega arith; from = omega arith; to = omega arith });
       place = refl;
       flags = refl;
     })

@@ -1,8 +1,5 @@
 // The bytes that an upload reads: the info bytes, or a PROG header for the read range and then the range.
-use flash::Addr;
 use flash::BLOCK;
-use flash::Block;
-use flash::Reach;
 use request::Command;
 use session::Board;
 use session::Upload;
@@ -14,17 +11,6 @@ ghost use Rattle.flash.specs.Flash.{startOf, Within, range};
 ghost use Rattle.session.specs.Session.{appEnd, infoLength, prefixLength};
 ghost use Rattle.stream.specs.Stream.{headerOf, prefixOf, infoStream, nextOf, Sendable, Sent};
 
-// Where a block starts, of those few that can't be out of the conversion's reach.
-fn start(block: Block) -> Addr
-    requires { ⌜ startOf (block .0) < 2 ^ 32 ⌝ }
-    ensures { λ r. ⌜ r .0 ≡ startOf (block .0) ⌝ }
-{
-    match block.address() {
-        Reach::At(at) => at,
-        Reach::Past => Addr(0),
-    }
-}
-
 // The info bytes.
 fn info(board: Board) -> [u8; 20]
     requires { ⌜ (startOf (appEnd board) < 2 ^ 32) × (startOf (board .a .0) < 2 ^ 32) ⌝ }
@@ -34,8 +20,8 @@ fn info(board: Board) -> [u8; 20]
     let blocks = numbers::low2(board.b.0);
     let part0 = numbers::low4(board.part0);
     let part1 = numbers::low4(board.part1);
-    let end = numbers::low4(start(session::app_end(board)).0);
-    let begin = numbers::low4(start(board.a).0);
+    let end = numbers::low4(session::app_end(board).start().0);
+    let begin = numbers::low4(board.a.start().0);
     [
         size.0,
         size.1,
@@ -125,7 +111,7 @@ fn read_range(up: Upload, flash: &[u8]) -> &[u8]
     requires { ⌜ Within (now flash) (startOf (up .first .0)) (up .len) ⌝ }
     ensures { λ r. ⌜ now r ≡ range (now (flash .entry)) (startOf (up .first .0)) (up .len) ⌝ }
 {
-    let from = start(up.first).0 as usize;
+    let from = up.first.start().0 as usize;
     let to = from + up.len as usize;
     &flash[from..to]
 }
