@@ -2,7 +2,7 @@
 use Prim.Native.Nat.{ℕ, _+_, _-_, _≤_, _<_}
 use mathlib.Core.Bool.{Bool, true, false, cond, _&&_}
 use mathlib.Core.List.{List}
-use mathlib.Core.Logic.{⊎-elim}
+use mathlib.Core.Logic.{inl, ⊎-elim}
 use mathlib.Core.Path.{_≡_, refl, sym, subst}
 use native.Mathlib.Omega.{arith}
 use borrow.Author.Tests.{leb-true, eqb-false, ne-eqb}
@@ -12,7 +12,7 @@ use Rattle.flash.specs.Flash.{startOf, Within}
 use Rattle.sums.specs.Sum.{Split}
 use Rattle.session.specs.Codes.{idle, downloadIdle, checkErased, address, vendor}
 use Rattle.session.specs.Session.{appEnd, freshOf}
-use Rattle.session.specs.Rules.{running, inApplication}
+use Rattle.session.specs.Rules.{inApplication}
 use Rattle.session.specs.declared.Session.{Session}
 use Rattle.session.proofs.Laws.{fit-kept, fit-facts, split-facts, end-in-flash, end-after-start, inside-facts}
 use Rattle.session.proofs.Tests.{left-of}
@@ -23,7 +23,8 @@ use Rattle.jobs.specs.declared.Job.{Job}
 use Rattle.jobs.specs.Job.{planOf, Place, Can}
 use Rattle.jobs.proofs.Laws.{place-within}
 use Rattle.command.specs.Ready.{Ready, Loading}
-use Rattle.command.specs.Download.{prog, read, check, erase, info, bin, reset, allErased, wroteOf, faultPlan, progOf, readOf, checkOf}
+use Rattle.request.specs.Commands.{prog, read, check, erase, info, bin, reset}
+use Rattle.command.specs.Download.{allErased, wroteOf, faultPlan, progOf, readOf, checkOf}
 use Rattle.command.specs.Download.{eraseOf, infoOf, binOf, wellFormed, byNumber, commandOf, closedOf, pieceOf, dnloadOf}
 
 module _ (s : Session) (f : List ℕ) (r : Ready s f) where
@@ -153,7 +154,6 @@ module _ (s : Session) (f d : List ℕ) (r : Ready s f) where
   unfolding pieceOf closedOf faultOf movedTo
   piece-can here =
       let facts = fit-facts s (r .fit) in
-      let runs : running (s .phase) ≡ true = rw here in
       pick (Doable s f d) (eqb (length d) 0) _ _
       (λ _.
       only-can s f d (closedOf s)
@@ -163,7 +163,7 @@ module _ (s : Session) (f d : List ℕ) (r : Ready s f) where
       (λ n.
       let few : length d ≤ s .down .left = leb-true _ _ n in
       wrote-can (s .down .place .0) 0 (length d) _ (omega arith) refl
-      (record { low = facts .place-from runs; high = omega (arith, facts .left-to runs, few) }))
+      (record { low = facts .place-from (inl here); high = omega (arith, facts .left-to (inl here), few) }))
       (λ _. fault-can s f d address))
 
   pub dnload-can : Loading s → Doable s f d (dnloadOf s f d)

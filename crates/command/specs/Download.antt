@@ -10,38 +10,13 @@ use Rattle.session.specs.Codes.{idle, downloadIdle, manifestSync, ok, checkEras
 use Rattle.session.specs.Session.{phaseOf, downOf, noDownload, upOf, withUp, flashStream, infoBytes}
 use Rattle.session.specs.Rules.{inApplication}
 use Rattle.session.specs.declared.Session.{Session}
-use Rattle.request.specs.Request.{wordAt}
+use Rattle.numbers.specs.Numbers.{wordAt, longAt}
+use Rattle.request.specs.Commands.{prog, read, check, erase, info, bin, reset}
 use Rattle.moves.specs.declared.Outcome.{Outcome}
 use Rattle.moves.specs.Moves.{movedTo, toSync, takenOf, faultOf, resetOf}
 use Rattle.jobs.specs.declared.Plan.{Plan}
 use Rattle.jobs.specs.declared.Job.{Job}
 use Rattle.jobs.specs.Job.{planOf, bytesTo, wipeOf}
-
--- the 32-bit number at a place, low byte first
-abbrev pub longAt : List ℕ → ℕ → ℕ
-longAt bytes at = wordAt bytes at + wordAt bytes (at + 2) * 65536
-
--- the commands
-abbrev pub prog : ℕ
-prog = 1
-
-abbrev pub read : ℕ
-read = 2
-
-abbrev pub check : ℕ
-check = 3
-
-abbrev pub erase : ℕ
-erase = 4
-
-abbrev pub info : ℕ
-info = 5
-
-abbrev pub bin : ℕ
-bin = 6
-
-abbrev pub reset : ℕ
-reset = 7
 
 -- whether a search found nothing
 abbrev pub nothing : Found → Bool

@@ -3,10 +3,10 @@
 use flash::Addr;
 use flash::Block;
 use flash::Found;
-use flash::Reach;
 use jobs::Job;
 use jobs::Plan;
 use moves::Outcome;
+use request::Command;
 use session::Download;
 use session::Session;
 use session::State;
@@ -17,33 +17,11 @@ ghost use mathlib.Core.Path.{_≡_};
 ghost use mathlib.Core.Bool.{Bool, true};
 ghost use lib.ListN.{length, getD};
 ghost use Rattle.flash.specs.Flash.{startOf};
-ghost use Rattle.request.specs.Request.{wordAt};
+ghost use Rattle.numbers.specs.Numbers.{wordAt};
 ghost use Rattle.session.specs.Rules.{fitOf, inApplication};
 ghost use Rattle.command.specs.Ready.{Ready, Loading};
-ghost use Rattle.command.specs.Download.{longAt, allErased, wroteOf, faultPlan, progOf, readOf, checkOf, eraseOf};
+ghost use Rattle.command.specs.Download.{allErased, wroteOf, faultPlan, progOf, readOf, checkOf, eraseOf};
 ghost use Rattle.command.specs.Download.{infoOf, prefixFor, binOf, wellFormed, byNumber, commandOf, closedOf, pieceOf, dnloadOf};
-
-// The commands' numbers.
-const PROG: u8 = 1;
-
-const READ: u8 = 2;
-
-const CHECK: u8 = 3;
-
-const ERASE: u8 = 4;
-
-const INFO: u8 = 5;
-
-const BIN: u8 = 6;
-
-const RESET: u8 = 7;
-
-fn long(bytes: &[u8], at: usize) -> u32
-    requires { ⌜ at + 3 < length (now bytes) ⌝ }
-    ensures { λ r. ⌜ r ≡ longAt (now (bytes .entry)) at ⌝ }
-{
-    request::word(bytes, at) + request::word(bytes, at + 2) * 65536
-}
 
 fn erased(flash: &[u8], block: Block, len: u32) -> bool
     requires { ⌜ startOf (block .0) + len ≤ length (now flash) ⌝ }
@@ -97,10 +75,7 @@ fn prog(s: Session, flash: &[u8], block: Block, len: u32, n: usize) -> Plan
     if !erased(flash, block, len) {
         return fault(s, Status::CHECK_ERASED);
     }
-    let Reach::At(at) = block.address() else {
-        return fault(s, Status::ADDRESS);
-    };
-    write(s, at, 8, n as u32, len - n as u32)
+    write(s, block.start(), 8, n as u32, len - n as u32)
 }
 
 fn read(s: Session, block: Block, len: u32) -> Outcome
@@ -134,9 +109,7 @@ fn erase(s: Session, block: Block, count: u32) -> Plan
     requires { ⌜ count < 65536 ⌝ }
     ensures { λ r. ⌜ r ≡ eraseOf s (block .0) count ⌝ }
 {
-    let Reach::At(size) = Block(count).address() else {
-        return fault(s, Status::ADDRESS);
-    };
+    let size = Block(count).start();
     if !session::in_application(s.board, block, size.0) {
         return fault(s, Status::ADDRESS);
     }
@@ -184,7 +157,7 @@ fn well_formed(d: &[u8]) -> bool
         return false;
     }
     let code = d[0];
-    (PROG <= code) & (code <= RESET) & ((code == PROG) | (d.len() == 8))
+    (Command::PROG <= code) & (code <= Command::RESET) & ((code == Command::PROG) | (d.len() == 8))
 }
 
 fn by_number(s: Session, flash: &[u8], d: &[u8]) -> Plan
@@ -193,15 +166,15 @@ fn by_number(s: Session, flash: &[u8], d: &[u8]) -> Plan
     ensures { λ r. ⌜ r ≡ byNumber (getD (now (d .entry)) 0 0) s (now (flash .entry)) (now (d .entry)) ⌝ }
 {
     let code = d[0];
-    let block = Block(request::word(d, 2));
-    let len = long(d, 4);
+    let block = Block(numbers::word(d, 2));
+    let len = numbers::long(d, 4);
     match code {
-        PROG => prog(s, flash, block, len, d.len() - 8),
-        READ => jobs::only(read(s, block, len)),
-        CHECK => jobs::only(check(s, flash, block, len)),
-        ERASE => erase(s, block, request::word(d, 4)),
-        INFO => jobs::only(info(s)),
-        BIN => jobs::only(bin(s, d[1])),
+        Command::PROG => prog(s, flash, block, len, d.len() - 8),
+        Command::READ => jobs::only(read(s, block, len)),
+        Command::CHECK => jobs::only(check(s, flash, block, len)),
+        Command::ERASE => erase(s, block, numbers::word(d, 4)),
+        Command::INFO => jobs::only(info(s)),
+        Command::BIN => jobs::only(bin(s, d[1])),
         _ => jobs::only(moves::reset(s)),
     }
 }

@@ -1,8 +1,8 @@
 -- Flash as a list of bytes, and what erasing, programming and searching leave of it or find in it.
 use Prim.Native.Nat.{ℕ, _+_, _-_, _*_, _/_, _^_, _≤_, _<_}
-use mathlib.Core.Bool.{Bool, cond}
+use mathlib.Core.Bool.{Bool, cond, _&&_}
 use mathlib.Core.List.{List, [], _∷_, _++_}
-use lib.Dec.{ltb, eqb}
+use lib.Dec.{ltb, leb, eqb}
 use lib.ListN.{length, take, drop, replicate, set}
 use Rattle.flash.specs.declared.Reach.{Reach}
 use Rattle.flash.specs.declared.Found.{Found}
@@ -19,9 +19,22 @@ erasedByte = 255
 abbrev pub startOf : ℕ → ℕ
 startOf block = block * blockSize
 
--- the checked conversion: a block whose start has a 32-bit address is there, any other is out of reach
+-- whether a block's start has a 32-bit address
+abbrev pub inReach : ℕ → Bool
+inReach block = ltb (startOf block) (2 ^ 32)
+
+-- the checked conversion: a block in reach is at its address, any other is past all of them
 abbrev pub reachOf : ℕ → Reach
-reachOf block = cond (ltb (startOf block) (2 ^ 32)) (Reach.At (record { 0 = startOf block })) Reach.Past
+reachOf block = cond (inReach block) (Reach.At (record { 0 = startOf block })) Reach.Past
+
+-- whether the n bytes from address at on lie in blocks first to stop − 1; out of reach is out of range
+abbrev pub liesIn : ℕ → ℕ → ℕ → ℕ → Bool
+liesIn at n first stop =
+    inReach first && inReach stop && leb (startOf first) at && leb (at + n) (startOf stop)
+
+-- whether a flash of so many bytes ends where a block starts; none ends at a block out of reach
+abbrev pub endsAt : ℕ → ℕ → Bool
+endsAt block len = inReach block && eqb len (startOf block)
 
 -- the block that holds the byte at an address
 abbrev pub holderOf : ℕ → ℕ

@@ -1,9 +1,10 @@
 // A flash of blocks, lent as a slice of bytes: where a block begins, the one store, erase, program, and the search for a byte
 // that is not erased. How many blocks there are is the caller's to know; a range has to lie in the slice.
-ghost use Prim.Native.Nat.{_*_, _<_};
+ghost use Prim.Native.Nat.{_<_, _^_};
 ghost use mathlib.Core.Path.{_≡_};
 ghost use lib.ListN.{length, set};
-ghost use Rattle.flash.specs.Flash.{reachOf, startOf, holderOf, nextStart, Within, blank, spliced, erased, range, firstIn, searched};
+ghost use Rattle.flash.specs.Flash.{startOf, reachOf, liesIn, endsAt, holderOf, Within};
+ghost use Rattle.flash.specs.Flash.{blank, spliced, erased, range, firstIn, searched};
 
 // The bytes of a block.
 pub const BLOCK: u32 = 1024;
@@ -43,6 +44,27 @@ impl Block {
             Reach::Past
         }
     }
+
+    // Where a block starts that can't be out of reach.
+    pub fn start(self) -> Addr
+        requires { ⌜ startOf (self .0) < 2 ^ 32 ⌝ }
+        ensures { λ r. ⌜ r .0 ≡ startOf (self .0) ⌝ }
+    {
+        match self.address() {
+            Reach::At(at) => at,
+            Reach::Past => Addr(0),
+        }
+    }
+
+    // Whether a flash of `len` bytes ends where this block starts.
+    pub fn ends(self, len: usize) -> bool
+        ensures { λ r. ⌜ r ≡ endsAt (self .0) len ⌝ }
+    {
+        match self.address() {
+            Reach::At(at) => len == at.0 as usize,
+            Reach::Past => false,
+        }
+    }
 }
 
 impl Addr {
@@ -53,12 +75,17 @@ impl Addr {
         Block(self.0 / BLOCK)
     }
 
-    // The first block that starts here or later, summed so that it can't wrap.
-    pub fn next_start(self) -> Block
-        ensures { λ r. ⌜ r .0 ≡ nextStart (self .0) ⌝ }
+    // Whether the n bytes from here on lie in blocks `first` to the one before `stop`; 64 bits hold the sum at any n.
+    pub fn lies_in(self, n: u32, first: Block, stop: Block) -> bool
+        ensures { λ r. ⌜ r ≡ liesIn (self .0) n (first .0) (stop .0) ⌝ }
     {
-        let at = self.0;
-        Block(at / BLOCK + (at % BLOCK + (BLOCK - 1)) / BLOCK)
+        let Reach::At(low) = first.address() else {
+            return false;
+        };
+        let Reach::At(high) = stop.address() else {
+            return false;
+        };
+        (low.0 <= self.0) & ((self.0 as u64) + (n as u64) <= high.0 as u64)
     }
 }
 
@@ -100,10 +127,7 @@ pub fn erase(flash: &mut [u8], first: Block, count: u32)
     requires { ⌜ Within (now flash) (startOf (first .0)) (startOf count) ⌝ }
     ensures { λ _. ⌜ now (flash .exit) ≡ erased (now (flash .entry)) (first .0) count ⌝ }
 {
-    match first.address() {
-        Reach::At(at) => wipe(flash, at, count * BLOCK),
-        Reach::Past => {}
-    }
+    wipe(flash, first.start(), count * BLOCK);
 }
 
 // The walk over blocks and the walk over a block's bytes are left together, at the first byte that is not erased.
@@ -135,8 +159,5 @@ pub fn search(flash: &[u8], first: Block, n: u32) -> Found
     requires { ⌜ Within (now flash) (startOf (first .0)) n ⌝ }
     ensures { λ r. ⌜ r ≡ searched (now (flash .entry)) (first .0) n ⌝ }
 {
-    match first.address() {
-        Reach::At(at) => search_from(flash, at, n),
-        Reach::Past => Found::Nothing,
-    }
+    search_from(flash, first.start(), n)
 }

@@ -1,18 +1,19 @@
 -- What the loader's parts lean on: an answer from its count and its reply, where an upload stands, what a start and a call have been
 -- found to be. Assumes nothing.
 use Prim.Native.Nat.{ℕ, _+_, _≤_, _<_, _^_}
-use mathlib.Core.Bool.{Bool, true, not, _&&_}
+use mathlib.Core.Bool.{Bool, true, false, not, _&&_, and-false}
 use mathlib.Core.List.{List, _++_}
 use mathlib.Core.Logic.{inl, inr, ⊎-elim}
-use mathlib.Core.Path.{_≡_, sym, ap, ap₂, subst⁻¹, _∙_}
+use mathlib.Core.Path.{_≡_, refl, sym, ap, ap₂, subst⁻¹, _∙_}
 use native.Mathlib.Omega.{arith}
 use borrow.Author.Tests.{eqb-true, leb-true}
 use lib.Dec.{eqb, leb}
 use lib.ListN.{length, drop}
-use Rattle.flash.specs.Flash.{startOf, carried}
+use Rattle.flash.specs.Flash.{startOf, endsAt, carried}
+use Rattle.flash.proofs.Reaching.{ends-at}
 use Rattle.sums.specs.Sum.{Split}
 use Rattle.session.specs.Codes.{idle, downloadIdle, uploadIdle}
-use Rattle.session.specs.Session.{appEnd, streamLength}
+use Rattle.session.specs.Session.{allowedSplit, boardOf, appEnd, streamLength}
 use Rattle.session.specs.Rules.{fitOf, splitRule}
 use Rattle.session.specs.declared.Board.{Board}
 use Rattle.session.specs.declared.Session.{Session}
@@ -73,6 +74,22 @@ module _ (n : ℕ) (b : Board) (e : startable n (b .a .0) (b .b .0) ≡ true) wh
       let facts = split-facts b start-split in
       let sized = start-sized in
       record { ordered = omega arith; counted = omega arith; inside = omega arith }
+
+-- a test among others, where the others leave no difference to another test
+pub same-behind : (t x y : Bool) → (t ≡ true → x ≡ y) → (t && x) ≡ (t && y)
+same-behind true x y h = h refl
+same-behind false x y h = refl
+
+pub same-before : (p q t x y : Bool) → (t ≡ true → x ≡ y) → (p && x && q && t) ≡ (p && y && q && t)
+same-before p q true x y h = ap (λ (z : Bool). p && z && q && true) (h refl)
+same-before p q false x y h = and-false (p && x && q) ∙ sym (and-false (p && y && q))
+
+-- where an allowed B is judged, the checked conversion and the product are one
+pub split-ends : (a b n : ℕ) → allowedSplit a b ≡ true → endsAt b n ≡ eqb n (startOf b)
+split-ends a b n e = let k = split-facts (boardOf a b 0 0) e in ends-at b n (omega arith)
+
+pub fit-ends : (s : Session) (n : ℕ) → fitOf s ≡ true → endsAt (s .board .b .0) n ≡ eqb n (startOf (s .board .b .0))
+fit-ends s n e = let k = fit-facts s e .few-blocks in ends-at (s .board .b .0) n (omega arith)
 
 -- a call that is ready
 module _ (s : Session) (f setup : List ℕ) (dataLength room : ℕ) (e : ready s (length f) setup dataLength room ≡ true) where

@@ -8,7 +8,7 @@ use Rattle.session.specs.Codes.{idle, downloadSync, manifestSync}
 use Rattle.session.specs.Session.{phaseOf, withPhase}
 use Rattle.session.specs.declared.Phase.{Phase}
 use Rattle.session.specs.declared.Session.{Session}
-use Rattle.stream.specs.Stream.{bytes3}
+use Rattle.numbers.specs.Numbers.{bytes3}
 use Rattle.moves.specs.declared.Answer.{Answer}
 use Rattle.moves.specs.Answers.{Replied, outcome, replied}
 

@@ -1,5 +1,4 @@
 // The loader: a fresh start, and one request after another. It checks all that it is handed, so a board's programmer need not.
-use flash::BLOCK;
 use flash::Block;
 use jobs::Plan;
 use moves::Answer;
@@ -17,11 +16,11 @@ ghost use Rattle.loader.specs.Step.{startable, startOutcome, ready, deci
 mod reply;
 mod upload;
 
-// A, B and the flash length as they must be; 64 bits hold the product at any B.
+// A, B and the flash length as they must be.
 fn allowed_start(flash_len: usize, a: Block, b: Block) -> bool
     ensures { λ r. ⌜ r ≡ startable «flash_len» (a .0) (b .0) ⌝ }
 {
-    session::allowed_split(a, b) & (flash_len as u64 == (b.0 as u64) * (BLOCK as u64))
+    session::allowed_split(a, b) & b.ends(flash_len)
 }
 
 // The fresh session of a board, with the sums of its flash; answer 2 and a session of zeros where A, B or the length is wrong.
@@ -55,7 +54,7 @@ fn is_ready(s: Session, flash_len: usize, setup: &[u8], data_len: usize, reply_l
 {
     (setup.len() == 8)
         & (1024 <= reply_len)
-        & (flash_len as u64 == (s.board.b.0 as u64) * (BLOCK as u64))
+        & s.board.b.ends(flash_len)
         & (data_len == request::asked(setup) as usize)
         & session::fit(s)
 }

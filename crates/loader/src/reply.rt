@@ -56,15 +56,8 @@ pub fn getstatus(s: Session, reply: &mut [u8]) -> Outcome
     requires { ⌜ 1024 ≤ length (now reply) ⌝ }
     ensures { λ r. ⌜ replied r (now (reply .exit)) ≡ getstatusOf s (now (reply .entry)) ⌝ }
 {
-    let wait = poll_time(s);
-    let bytes = [
-        s.phase.status.0,
-        (wait % 256) as u8,
-        (wait / 256 % 256) as u8,
-        (wait / 65536 % 256) as u8,
-        next(s.phase),
-        0,
-    ];
+    let wait = numbers::low3(poll_time(s));
+    let bytes = [s.phase.status.0, wait.0, wait.1, wait.2, next(s.phase), 0];
     answer(poll(s), &bytes, reply)
 }
 

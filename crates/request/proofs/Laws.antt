@@ -2,23 +2,22 @@
 use Prim.Native.Nat.{ℕ, _≤_, _<_}
 use native.Mathlib.Omega.{arith}
 use native.Mathlib.Decide.{ℕ-discrete}
-use mathlib.Core.Path.{_≡_, refl, sym}
-use mathlib.Core.Logic.{⊎-elim}
+use mathlib.Core.Path.{_≡_, refl, sym, _∙_}
 use mathlib.Core.Bool.{Bool, true, false, not, cond, _&&_, _||_, and-true, or-false}
 use mathlib.Core.List.{List, [], _∷_, map}
 use lib.Dec.{eqb, leb}
-use lib.ListN.{getD}
-use borrow.Author.Tests.{eqb-true, leb-true, ne-eqb}
-use Rattle.session.specs.Codes.{idle, downloadSync, downloadIdle, manifestSync, uploadIdle, error}
-use Rattle.session.specs.Fit.{OneOfSix}
+use lib.ListN.{length, getD}
+use borrow.Author.Tests.{eqb-true, leb-true, ne-eqb, lt-ltb, le-ltb}
+use Rattle.session.specs.Codes.{idle, downloadIdle, uploadIdle, error, states, knownState, columnOf}
+use Rattle.session.specs.Fit.{KnownState, is-idle, is-download-idle, is-upload-idle, is-error}
 use Rattle.session.proofs.Tests.{left-of, right-of}
-use Rattle.session.proofs.Laws.{NoState, no-state, which-state, at-six}
+use Rattle.session.proofs.Laws.{no-state, column-known, at-column}
 use Rattle.request.specs.declared.Setup.{Setup}
 use Rattle.request.specs.declared.Request.{Request}
 use Rattle.request.specs.declared.Request.the-variants.{Dnload, Upload, GetStatus, ClrStatus}
 use Rattle.request.specs.declared.Request.the-variants.{GetState, Abort, Query, Nothing}
 use Rattle.request.specs.Request.{setupOf, hasForm, inForm, formOf, requestOf, wLength, dataAsked}
-use Rattle.request.specs.Request.{allowedOf, rowOf, columnOf}
+use Rattle.request.specs.Request.{allowedOf, rowOf}
 
 -- a pick that a callee's answer made
 pub told-yes : {A : Type 0} (r t : Bool) (x y : A) → r ≡ t → r ≡ true → x ≡ cond t x y
@@ -86,69 +85,53 @@ upload-length bytes e =
     let f = form-facts s 0xA1 2 1 1024 (rw e at (form-right s)) in
     (f .3, f .4)
 
--- a number that is no state has no column
-pub no-column : (n : ℕ) → NoState n → columnOf n ≡ 6
-unfolding columnOf
-no-column n k =
-    rw (k .not-idle, k .not-download-sync, k .not-download-idle, k .not-manifest-sync, k .not-upload-idle, k .not-error)
-
--- a state has a column of the table
-has-column : (n : ℕ) → OneOfSix n → columnOf n < 6
-unfolding columnOf
-has-column =
-    at-six (λ n. columnOf n < 6)
-    (omega arith)
-    (omega arith)
-    (omega arith)
-    (omega arith)
-    (omega arith)
-    (omega arith)
-
 -- nothing is allowed in what is no state
-unknown : (r : Request) (n : ℕ) → NoState n → allowedOf r 1 n ≡ false
+unknown : (r : Request) (n : ℕ) → knownState n ≡ false → allowedOf r 1 n ≡ false
 unfolding allowedOf
-unknown Dnload n k = rw (k .not-idle, k .not-download-idle)
-unknown Upload n k = rw (k .not-idle, k .not-upload-idle)
-unknown GetStatus n k = no-state n k
-unknown ClrStatus n k = k .not-error
-unknown GetState n k = no-state n k
-unknown Abort n k = rw (no-state n k)
-unknown Query n k = no-state n k
+unknown Dnload n k =
+    rw (ne-eqb n idle (λ e. no-state n k (is-idle e)), ne-eqb n downloadIdle (λ e. no-state n k (is-download-idle e)))
+unknown Upload n k =
+    rw (ne-eqb n idle (λ e. no-state n k (is-idle e)), ne-eqb n uploadIdle (λ e. no-state n k (is-upload-idle e)))
+unknown GetStatus n k = k
+unknown ClrStatus n k = ne-eqb n error (λ e. no-state n k (is-error e))
+unknown GetState n k = k
+unknown Abort n k = rw k
+unknown Query n k = k
 unknown Nothing n k = refl
 
 -- the table, computed: of requests that bring a byte, by states
 unfoldable pub allowedTable : List (List Bool)
 allowedTable =
-    map (λ r. map (allowedOf r 1) (idle ∷ downloadSync ∷ downloadIdle ∷ manifestSync ∷ uploadIdle ∷ error ∷ []))
+    map (λ r. map (allowedOf r 1) states)
     (Dnload ∷ Upload ∷ GetStatus ∷ ClrStatus ∷ GetState ∷ Abort ∷ Query ∷ [])
 
 -- its rule, at all of its entries
 entry : Request → ℕ → Bool
 entry r n = getD (getD allowedTable (rowOf r) []) (columnOf n) false
 
-entries : (r : Request) (n : ℕ) → OneOfSix n → entry r n ≡ allowedOf r 1 n
-unfolding entry allowedTable allowedOf columnOf
-entries Dnload = at-six (λ n. entry Dnload n ≡ allowedOf Dnload 1 n) refl refl refl refl refl refl
-entries Upload = at-six (λ n. entry Upload n ≡ allowedOf Upload 1 n) refl refl refl refl refl refl
-entries GetStatus = at-six (λ n. entry GetStatus n ≡ allowedOf GetStatus 1 n) refl refl refl refl refl refl
-entries ClrStatus = at-six (λ n. entry ClrStatus n ≡ allowedOf ClrStatus 1 n) refl refl refl refl refl refl
-entries GetState = at-six (λ n. entry GetState n ≡ allowedOf GetState 1 n) refl refl refl refl refl refl
-entries Abort = at-six (λ n. entry Abort n ≡ allowedOf Abort 1 n) refl refl refl refl refl refl
-entries Query = at-six (λ n. entry Query n ≡ allowedOf Query 1 n) refl refl refl refl refl refl
-entries Nothing = at-six (λ n. entry Nothing n ≡ allowedOf Nothing 1 n) refl refl refl refl refl refl
+entries : (r : Request) (n : ℕ) → knownState n ≡ true → entry r n ≡ allowedOf r 1 n
+unfolding entry allowedTable allowedOf
+entries Dnload = at-column (allowedOf Dnload 1) false
+entries Upload = at-column (allowedOf Upload 1) false
+entries GetStatus = at-column (allowedOf GetStatus 1) false
+entries ClrStatus = at-column (allowedOf ClrStatus 1) false
+entries GetState = at-column (allowedOf GetState 1) false
+entries Abort = at-column (allowedOf Abort 1) false
+entries Query = at-column (allowedOf Query 1) false
+entries Nothing = λ n k. refl
 
 -- what the table's reader answers outside the table and in it
 module _ (r : Request) (n : ℕ) where
-  pub past-columns : (j : ℕ) → j ≡ columnOf n → 6 ≤ j → false ≡ allowedOf r 1 n
+  pub past-columns : (j : ℕ) → j ≡ columnOf n → length states ≤ j → false ≡ allowedOf r 1 n
   past-columns j e h =
-      ⊎-elim (λ k. absurd (let l = has-column n k in omega arith)) (λ k. sym (unknown r n k)) (which-state n)
+      sym (unknown r n (sym (column-known n) ∙ le-ltb (columnOf n) (length states) (rw e at h)))
 
   pub in-table :
-      (i j : ℕ) → i ≡ rowOf r → j ≡ columnOf n → j < 6
+      (i j : ℕ) → i ≡ rowOf r → j ≡ columnOf n → j < length states
       → getD (getD allowedTable i []) j false ≡ allowedOf r 1 n
   unfolding entry
   in-table i j e f h =
-      ⊎-elim (λ k. rw (e, f) (entries r n k)) (λ k. absurd (let l = no-column n k in omega arith)) (which-state n)
+      rw (e, f) (entries r n (sym (column-known n) ∙ lt-ltb (columnOf n) (length states) (rw f at h)))
 
 pub past-rows : (r : Request) (n i : ℕ) → i ≡ rowOf r → 7 ≤ i → false ≡ allowedOf r 1 n
 unfolding allowedOf

@@ -1,18 +1,15 @@
 -- The requests: how the setup is read, the form of each, and the states that allow it.
-use Prim.Native.Nat.{ℕ, _+_, _*_}
+use Prim.Native.Nat.{ℕ}
 use mathlib.Core.Bool.{Bool, true, false, not, cond, _&&_, _||_}
 use mathlib.Core.List.{List}
 use lib.Dec.{eqb, leb}
 use lib.ListN.{length, getD}
-use Rattle.session.specs.Codes.{idle, downloadSync, downloadIdle, manifestSync, uploadIdle, error, knownState}
+use Rattle.numbers.specs.Numbers.{wordAt}
+use Rattle.session.specs.Codes.{idle, downloadIdle, uploadIdle, error, knownState}
 use Rattle.request.specs.declared.Setup.{Setup}
 use Rattle.request.specs.declared.Request.{Request}
 use Rattle.request.specs.declared.Request.the-variants.{Dnload, Upload, GetStatus, ClrStatus}
 use Rattle.request.specs.declared.Request.the-variants.{GetState, Abort, Query, Nothing}
-
--- the 16-bit number at a place, low byte first
-abbrev pub wordAt : List ℕ → ℕ → ℕ
-wordAt bytes at = getD bytes at 0 + getD bytes (at + 1) 0 * 256
 
 -- the parts of a setup: bmRequestType, bRequest, wValue, wIndex, wLength; zeros unless it is 8 bytes
 unfoldable pub setupOf : List ℕ → Setup
@@ -91,13 +88,3 @@ rowOf GetState = 4
 rowOf Abort = 5
 rowOf Query = 6
 rowOf Nothing = 7
-
--- its columns, in the order of the states; 6 for no state
-unfoldable pub columnOf : ℕ → ℕ
-columnOf state =
-    cond (eqb state idle) 0
-    (cond (eqb state downloadSync) 1
-    (cond (eqb state downloadIdle) 2
-    (cond (eqb state manifestSync) 3
-    (cond (eqb state uploadIdle) 4
-    (cond (eqb state error) 5 6)))))

@@ -1,10 +1,9 @@
-// What the host asks: eight setup bytes to one of seven requests or none, and the table of requests by states.
+// What the host asks: eight setup bytes to one of seven requests or none, the table of requests by states, and the numbers of the
+// eight-byte commands.
 use session::State;
 ghost use mathlib.Core.Path.{_≡_};
-ghost use Prim.Native.Nat.{_+_, _<_};
-ghost use lib.ListN.{length};
-ghost use Rattle.request.specs.Request.{wordAt, setupOf, hasForm, inForm, formOf, requestOf, wLength, dataAsked};
-ghost use Rattle.request.specs.Request.{allowedOf, rowOf, columnOf};
+ghost use Rattle.request.specs.Request.{setupOf, hasForm, inForm, formOf, requestOf, wLength, dataAsked};
+ghost use Rattle.request.specs.Request.{allowedOf, rowOf};
 
 pub enum Request {
     Dnload,
@@ -15,6 +14,25 @@ pub enum Request {
     Abort,
     Query,
     Nothing,
+}
+
+// The number of an eight-byte command; the byte after it and the rest are read by the command's own rules.
+pub struct Command(pub u8);
+
+impl Command {
+    pub const PROG: u8 = 1;
+
+    pub const READ: u8 = 2;
+
+    pub const CHECK: u8 = 3;
+
+    pub const ERASE: u8 = 4;
+
+    pub const INFO: u8 = 5;
+
+    pub const BIN: u8 = 6;
+
+    pub const RESET: u8 = 7;
 }
 
 // The parts of a setup: bmRequestType, bRequest, wValue, wIndex, wLength.
@@ -31,8 +49,8 @@ const OUT: u8 = 0x21;
 
 const IN: u8 = 0xA1;
 
-// Which request is allowed in which state: a row for each request of the enum, a column for each state by its number.
-const ALLOWED: [[bool; 6]; 7] = [
+// Which request is allowed in which state: a row for each request of the enum, a column for each state.
+const ALLOWED: [[bool; State::COUNT]; 7] = [
     [true, false, true, false, false, false],
     [true, false, false, false, true, false],
     [true, true, true, true, true, true],
@@ -41,20 +59,6 @@ const ALLOWED: [[bool; 6]; 7] = [
     [true, true, true, true, true, false],
     [true, true, true, true, true, true],
 ];
-
-fn wide(byte: u8) -> u32
-    ensures { λ r. ⌜ r ≡ byte ⌝ }
-{
-    byte as u32
-}
-
-// The 16-bit number at a place, low byte first.
-pub fn word(bytes: &[u8], at: usize) -> u32
-    requires { ⌜ at + 1 < length (now bytes) ⌝ }
-    ensures { λ r. ⌜ (r ≡ wordAt (now (bytes .entry)) at) × (r < 65536) ⌝ }
-{
-    wide(bytes[at]) + wide(bytes[at + 1]) * 256
-}
 
 // What isn't 8 bytes has no parts: zeros have the form of no request.
 fn parts(setup: &[u8]) -> Setup
@@ -71,9 +75,9 @@ fn parts(setup: &[u8]) -> Setup
     }
     let kind = setup[0];
     let number = setup[1];
-    let value = word(setup, 2);
-    let index = word(setup, 4);
-    let length = word(setup, 6);
+    let value = numbers::word(setup, 2);
+    let index = numbers::word(setup, 4);
+    let length = numbers::word(setup, 6);
     Setup {
         kind: kind,
         number: number,
@@ -167,31 +171,16 @@ fn row(r: Request) -> usize
     }
 }
 
-fn column(s: State) -> usize
-    ensures { λ j. ⌜ j ≡ columnOf (s .0) ⌝ }
-{
-    let state = s.0;
-    match state {
-        State::IDLE => 0,
-        State::DOWNLOAD_SYNC => 1,
-        State::DOWNLOAD_IDLE => 2,
-        State::MANIFEST_SYNC => 3,
-        State::UPLOAD_IDLE => 4,
-        State::ERROR => 5,
-        _ => 6,
-    }
-}
-
 // What the table says, which is of requests that bring a byte.
 fn in_table(r: Request, s: State) -> bool
     ensures { λ a. ⌜ a ≡ allowedOf r 1 (s .0) ⌝ }
 {
     let i = row(r);
-    let j = column(s);
+    let j = s.column();
     if 7 <= i {
         return false;
     }
-    if 6 <= j {
+    if State::COUNT <= j {
         return false;
     }
     ALLOWED[i][j]

@@ -1,13 +1,18 @@
 -- Laws of the session: fit is what its facts say, zeros are unfit, the fresh session is fit.
-use Prim.Native.Nat.{ℕ, _+_, _*_, _-_, _≤_, _<_}
-use native.Mathlib.Decide.{ℕ-discrete}
+use Prim.Native.Nat.{ℕ, suc, _+_, _*_, _-_, _^_, _≤_, _<_}
+use native.Mathlib.Decide.{ℕ-discrete, decLt}
 use native.Mathlib.Omega.{arith}
-use mathlib.Core.Path.{_≡_, refl, ap, ap₂}
+use mathlib.Core.Path.{_≡_, refl, sym, ap, ap₂, _∙_}
 use mathlib.Core.Logic.{_⊎_, inl, inr, ⊎-elim}
-use mathlib.Core.Bool.{Bool, true, false, not, _&&_, _||_, false≢true}
+use mathlib.Core.Bool.{Bool, true, false, not, cond, _&&_, _||_, false≢true}
+use mathlib.Core.List.{List, [], _∷_, map}
 use lib.Dec.{eqb, leb, ltb}
-use borrow.Author.Tests.{eqb-true, eqb-false, leb-true, ltb-true, eq-eqb, ne-eqb, le-leb, lt-ltb}
-use Rattle.flash.specs.Flash.{blockSize, startOf}
+use lib.ListN.{length, getD}
+use borrow.Author.Tests.{eqb-true, eqb-false, leb-true, ltb-true, eq-eqb, ne-eqb, le-leb, lt-ltb, le-ltb}
+use Rattle.flash.specs.Flash.{blockSize, startOf, inReach, reachOf, liesIn}
+use Rattle.flash.specs.declared.Addr.{Addr}
+use Rattle.flash.specs.declared.Reach.{Reach}
+use Rattle.flash.proofs.Reaching.{reached-in, reached, lies-facts, facts-lie}
 use Rattle.sums.specs.declared.Sums.{Sums}
 use Rattle.sums.specs.Sum.{mostBlocks}
 use Rattle.session.specs.declared.Board.{Board}
@@ -16,14 +21,16 @@ use Rattle.session.specs.declared.Download.{Download}
 use Rattle.session.specs.declared.Upload.{Upload}
 use Rattle.session.specs.declared.Session.{Session}
 use Rattle.session.specs.Codes.{idle, downloadSync, downloadIdle, manifestSync, uploadIdle, error}
-use Rattle.session.specs.Codes.{knownState, ok, errorStatus}
+use Rattle.session.specs.Codes.{states, isIn, placeIn, knownState, columnOf}
+use Rattle.session.specs.Codes.{ok, checkErased, address, notDone, vendor, stalled, errorStatus}
 use Rattle.session.specs.Session.{appEnd, noDownload, downOf, withSums, wholeUpload, freshOf, zerosOf}
 use Rattle.session.specs.Session.{flashStream, infoBytes, infoLength, prefixLength, streamLength}
 use Rattle.session.specs.Rules.{inApplication, splitRule, stateRule, statusRule, running, downloadRule, uploadRule}
 use Rattle.session.specs.Rules.{afterRule, rangeRule, placeRule, flagsRule, fitOf}
-use Rattle.session.specs.Fit.{Inside, Fit, OneOfSix, is-idle, is-download-sync, is-download-idle, is-manifest-sync}
-use Rattle.session.specs.Fit.{is-upload-idle, is-error}
-use Rattle.session.proofs.Tests.{left-of, right-of, either, unless, or-unless, where-true, or-where, pick-most}
+use Rattle.session.specs.Fit.{Inside, Fit, KnownState, is-idle, is-download-sync, is-download-idle, is-manifest-sync}
+use Rattle.session.specs.Fit.{is-upload-idle, is-error, Running}
+use Rattle.session.specs.Fit.{ErrorStatus, is-check-erased, is-address, is-not-done, is-vendor, is-stalled}
+use Rattle.session.proofs.Tests.{left-of, right-of, either, one-of, never-true, unless, or-unless, where-true, or-where, pick-most}
 
 -- the rules one by one
 pub record Kept (s : Session) : Type 0 where
@@ -71,71 +78,58 @@ unfolding fitOf
 kept-fit s k =
     rw (k .split, k .state, k .status, k .download, k .upload, k .after, k .range, k .place, k .flags)
 
--- a number that is none of the six states
-pub record NoState (n : ℕ) : Type 0 where
-  pub not-idle : eqb n idle ≡ false
-  pub not-download-sync : eqb n downloadSync ≡ false
-  pub not-download-idle : eqb n downloadIdle ≡ false
-  pub not-manifest-sync : eqb n manifestSync ≡ false
-  pub not-upload-idle : eqb n uploadIdle ≡ false
-  pub not-error : eqb n error ≡ false
-
--- every number is one of the six states or none of them
-pub which-state : (n : ℕ) → OneOfSix n ⊎ NoState n
-which-state n =
-    elim (ℕ-discrete n idle) [
-      | yes p ↦ inl (is-idle p)
-      | no n1 ↦
-          elim (ℕ-discrete n downloadSync) [
-            | yes p ↦ inl (is-download-sync p)
-            | no n2 ↦
-                elim (ℕ-discrete n downloadIdle) [
-                  | yes p ↦ inl (is-download-idle p)
-                  | no n3 ↦
-                      elim (ℕ-discrete n manifestSync) [
-                        | yes p ↦ inl (is-manifest-sync p)
-                        | no n4 ↦
-                            elim (ℕ-discrete n uploadIdle) [
-                              | yes p ↦ inl (is-upload-idle p)
-                              | no n5 ↦
-                                  elim (ℕ-discrete n error) [
-                                    | yes p ↦ inl (is-error p)
-                                    | no n6 ↦
-                                        inr
-                                        (record {
-                                          not-idle = ne-eqb _ _ n1;
-                                          not-download-sync = ne-eqb _ _ n2;
-                                          not-download-idle = ne-eqb _ _ n3;
-                                          not-manifest-sync = ne-eqb _ _ n4;
-                                          not-upload-idle = ne-eqb _ _ n5;
-                                          not-error = ne-eqb _ _ n6;
-                                        })
-                                  ]
-                            ]
-                      ]
-                ]
-          ]
+-- a column of the table is a state's, and every state has one
+pick-in : (t : Bool) (k m : ℕ) (r : Bool) → ltb k m ≡ r → ltb (cond t 0 (suc k)) (suc m) ≡ (t || r)
+pick-in true k m r e = lt-ltb 0 (suc m) (omega arith)
+pick-in false k m r e =
+    elim (decLt k m) [
+      | yes h ↦ lt-ltb (suc k) (suc m) (omega arith) ∙ sym (lt-ltb k m h) ∙ e
+      | no h ↦ le-ltb (suc k) (suc m) (omega arith) ∙ sym (le-ltb k m (omega arith)) ∙ e
     ]
 
--- what holds at each of the six states holds at a number that is one of them
-pub at-six : (P : ℕ → Type 0) → P 2 → P 3 → P 5 → P 6 → P 9 → P 10 → (n : ℕ) → OneOfSix n → P n
-at-six P p2 p3 p5 p6 p9 p10 n (is-idle e) = rw e p2
-at-six P p2 p3 p5 p6 p9 p10 n (is-download-sync e) = rw e p3
-at-six P p2 p3 p5 p6 p9 p10 n (is-download-idle e) = rw e p5
-at-six P p2 p3 p5 p6 p9 p10 n (is-manifest-sync e) = rw e p6
-at-six P p2 p3 p5 p6 p9 p10 n (is-upload-idle e) = rw e p9
-at-six P p2 p3 p5 p6 p9 p10 n (is-error e) = rw e p10
+in-place : (n : ℕ) (xs : List ℕ) → ltb (placeIn n xs) (length xs) ≡ isIn n xs
+in-place n [] = refl
+in-place n (x ∷ xs) = pick-in (eqb n x) (placeIn n xs) (length xs) (isIn n xs) (in-place n xs)
 
--- a known state is one of six
-pub no-state : (n : ℕ) → NoState n → knownState n ≡ false
-no-state n k =
-    rw (k .not-idle, k .not-download-sync, k .not-download-idle, k .not-manifest-sync, k .not-upload-idle, k .not-error)
+pub column-known : (n : ℕ) → ltb (columnOf n) (length states) ≡ knownState n
+column-known n = in-place n states
 
-pub state-cases : (n : ℕ) → knownState n ≡ true → OneOfSix n
-state-cases n e = ⊎-elim (λ k. k) (λ k. absurd (false≢true (rw (no-state n k) at e))) (which-state n)
+-- what is listed in the order of the states stands at the state's column
+at-place :
+    {A : Type 0} (f : ℕ → A) (d : A) (n : ℕ) (xs : List ℕ) → isIn n xs ≡ true
+    → getD (map f xs) (placeIn n xs) d ≡ f n
+at-place f d n [] e = absurd (false≢true e)
+at-place f d n (x ∷ xs) e =
+    elim (ℕ-discrete n x) [
+      | yes h ↦ rw (eq-eqb n x h) (ap f (sym h))
+      | no h ↦ rw (ne-eqb n x h) (at-place f d n xs (unless (eqb n x) (isIn n xs) e (ne-eqb n x h)))
+    ]
 
-pub cases-state : (n : ℕ) → OneOfSix n → knownState n ≡ true
-cases-state = at-six (λ n. knownState n ≡ true) refl refl refl refl refl refl
+pub at-column :
+    {A : Type 0} (f : ℕ → A) (d : A) (n : ℕ) → knownState n ≡ true → getD (map f states) (columnOf n) d ≡ f n
+at-column f d n = at-place f d n states
+
+-- the test of a state says what the words say
+pub state-cases : (n : ℕ) → knownState n ≡ true → KnownState n
+state-cases n =
+    one-of (eqb n idle) _ (λ h. is-idle (eqb-true _ _ h))
+    (one-of (eqb n downloadSync) _ (λ h. is-download-sync (eqb-true _ _ h))
+    (one-of (eqb n downloadIdle) _ (λ h. is-download-idle (eqb-true _ _ h))
+    (one-of (eqb n manifestSync) _ (λ h. is-manifest-sync (eqb-true _ _ h))
+    (one-of (eqb n uploadIdle) _ (λ h. is-upload-idle (eqb-true _ _ h))
+    (one-of (eqb n error) _ (λ h. is-error (eqb-true _ _ h)) (λ e. absurd (false≢true e)))))))
+
+pub cases-state : (n : ℕ) → KnownState n → knownState n ≡ true
+cases-state n (is-idle e) = rw e
+cases-state n (is-download-sync e) = rw e
+cases-state n (is-download-idle e) = rw e
+cases-state n (is-manifest-sync e) = rw e
+cases-state n (is-upload-idle e) = rw e
+cases-state n (is-error e) = rw e
+
+-- what is no state is none of them
+pub no-state : (n : ℕ) → knownState n ≡ false → KnownState n → ⊥
+no-state n e k = false≢true (sym e ∙ cases-state n k)
 
 -- what the rule of A and B says, and with it of the application's end
 module _ (b : Board) where
@@ -157,11 +151,52 @@ module _ (b : Board) where
   unfolding appEnd
   end-after-start e = split-facts e .1
 
+-- the test of a status of state error says what the words say
+pub error-status : (n : ℕ) → errorStatus n ≡ true → ErrorStatus n
+error-status n =
+    let at5 = eqb n checkErased in
+    let at8 = eqb n address in
+    let at9 = eqb n notDone in
+    let at11 = eqb n vendor in
+    one-of (at5 || at8 || at9 || at11) (eqb n stalled)
+    (one-of (at5 || at8 || at9) at11
+    (one-of (at5 || at8) at9
+    (one-of at5 at8 (λ h. is-check-erased (eqb-true _ _ h)) (λ h. is-address (eqb-true _ _ h)))
+    (λ h. is-not-done (eqb-true _ _ h)))
+    (λ h. is-vendor (eqb-true _ _ h)))
+    (λ h. is-stalled (eqb-true _ _ h))
+
+pub status-error : (n : ℕ) → ErrorStatus n → errorStatus n ≡ true
+status-error n (is-check-erased e) = rw e
+status-error n (is-address e) = rw e
+status-error n (is-not-done e) = rw e
+status-error n (is-vendor e) = rw e
+status-error n (is-stalled e) = rw e
+
+-- the test whether a download runs says what the words say
+module _ (p : Phase) where
+  pub running-true : running p ≡ true → Running p
+  running-true e =
+      let sync = eqb (p .state .0) downloadSync in
+      let on = eqb (p .after .0) downloadIdle in
+      ⊎-elim (λ h. inl (eqb-true _ _ h)) (λ h. inr (eqb-true _ _ (left-of sync on h), eqb-true _ _ (right-of sync on h)))
+      (either (eqb (p .state .0) downloadIdle) (sync && on) e)
+
+  pub running-words : Running p → running p ≡ true
+  running-words (inl h) = rw h
+  running-words (inr h) = rw (h .0, h .1)
+
+  pub not-running : (Running p → ⊥) → running p ≡ false
+  not-running n = never-true (running p) (λ e. n (running-true e))
+
+  pub running-false : running p ≡ false → Running p → ⊥
+  running-false e r = false≢true (sym e ∙ running-words r)
+
 -- what the rules of the phase say
 module _ (p : Phase) where
   StatusFacts : Type 0
   StatusFacts =
-      ((p .state .0 ≡ error → ⊥) → p .status .0 ≡ ok) × (p .state .0 ≡ error → errorStatus (p .status .0) ≡ true)
+      ((p .state .0 ≡ 10 → ⊥) → p .status .0 ≡ 0) × (p .state .0 ≡ 10 → ErrorStatus (p .status .0))
 
   status-facts : statusRule p ≡ true → StatusFacts
   unfolding StatusFacts
@@ -170,7 +205,7 @@ module _ (p : Phase) where
       let none = eqb (p .status .0) ok in
       let one = errorStatus (p .status .0) in (
         λ n. eqb-true _ _ (unless at none (left-of (at || none) (not at || one) e) (ne-eqb _ _ n)),
-        λ h. where-true at one (right-of (at || none) (not at || one) e) (eq-eqb _ _ h),
+        λ h. error-status _ (where-true at one (right-of (at || none) (not at || one) e) (eq-eqb _ _ h)),
       )
 
   after-others : afterRule p ≡ true → (p .state .0 ≡ downloadSync → ⊥) → p .after .0 ≡ idle
@@ -187,25 +222,41 @@ module _ (p : Phase) where
       ⊎-elim (λ h. inl (eqb-true _ _ h)) (λ h. inr (eqb-true _ _ (right-of sync on h)))
       (either (eqb (p .after .0) idle) (sync && on) e)
 
-  no-download : (d : Download) → downloadRule p d ≡ true → running p ≡ false → d ≡ noDownload
-  no-download d e h =
+  no-download : (d : Download) → downloadRule p d ≡ true → (Running p → ⊥) → d ≡ noDownload
+  no-download d e n =
       let no-place = eqb (d .place .0) 0 in
       let none-left = eqb (d .left) 0 in
-      let z = unless (running p) (no-place && none-left) e h in
+      let z = unless (running p) (no-place && none-left) e (not-running p n) in
       ap₂ downOf (eqb-true _ _ (left-of no-place none-left z)) (eqb-true _ _ (right-of no-place none-left z))
 
 -- what it says that a range lies in the application
-pub inside-facts : (b : Board) (first len : ℕ) → inApplication b first len ≡ true → Inside b first len
-inside-facts b first len e =
-    let some = ltb 0 len in
-    let begins = leb (b .a .0) first in
-    let ends = leb (startOf first + len) (startOf (appEnd b)) in
-    let l = left-of (some && begins) ends e in
-    record {
-      some = ltb-true _ _ (left-of some begins l);
-      from = leb-true _ _ (right-of some begins l);
-      to = leb-true _ _ (right-of (some && begins) ends e);
-    }
+module _ (b : Board) (first len : ℕ) where
+  pub inside-facts : inApplication b first len ≡ true → Inside b first len
+  inside-facts e =
+      let near = inReach first in
+      let some = ltb 0 len in
+      let lies = liesIn (startOf first) len (b .a .0) (appEnd b) in
+      let facts = lies-facts (startOf first) len (b .a .0) (appEnd b) (right-of (near && some) lies e) in
+      record {
+        some = ltb-true _ _ (right-of near some (left-of (near && some) lies e));
+        from = omega arith;
+        to = facts .3;
+      }
+
+  pub facts-inside : startOf (appEnd b) < 2 ^ 32 → Inside b first len → inApplication b first len ≡ true
+  facts-inside near i =
+      rw (
+        lt-ltb (startOf first) (2 ^ 32) (omega (arith, i .to)),
+        lt-ltb 0 len (i .some),
+        facts-lie (startOf first) len (b .a .0) (appEnd b) (omega (arith, i .from)) (i .to) near,
+      )
+
+-- whether a range lies in the application, by its first address
+pub range-lies :
+    (b : Board) (first len : ℕ) (r : Reach) (at : Addr) (end : ℕ) (t : Bool)
+    → r ≡ Reach.At at → r ≡ reachOf first → end ≡ appEnd b → t ≡ liesIn (at .0) len (b .a .0) end
+    → (ltb 0 len && t) ≡ inApplication b first len
+range-lies b first len r at end t e q f g = rw (g, f, reached-in first r at e q, reached first r at e q)
 
 -- what the rules of the upload say
 module _ (b : Board) (p : Phase) (u : Upload) where
@@ -236,18 +287,11 @@ module _ (b : Board) (p : Phase) (d : Download) where
       × (d .place .0 ≤ startOf (appEnd b))
       × (d .place .0 + d .left ≤ startOf (appEnd b))
 
-  place-facts : placeRule b p d ≡ true → running p ≡ true → PlaceFacts
+  place-facts : placeRule b p d ≡ true → Running p → PlaceFacts
   unfolding PlaceFacts
   place-facts e r =
-      let begins = leb (startOf (b .a .0)) (d .place .0) in
-      let ends = leb (d .place .0) (startOf (appEnd b)) in
-      let fits = leb (d .place .0 + d .left) (startOf (appEnd b)) in
-      let w = where-true (running p) (begins && ends && fits) e r in
-      let l = left-of (begins && ends) fits w in (
-        leb-true _ _ (left-of begins ends l),
-        leb-true _ _ (right-of begins ends l),
-        leb-true _ _ (right-of (begins && ends) fits w),
-      )
+      let facts = lies-facts (d .place .0) (d .left) (b .a .0) (appEnd b) (where-true (running p) _ e (running-words p r)) in
+      (facts .2, omega arith, facts .3)
 
 -- a fit session has all the facts
 pub fit-facts : (s : Session) → fitOf s ≡ true → Fit s
@@ -294,13 +338,13 @@ module _ (s : Session) (f : Fit s) where
       let at = eqb (s .phase .state .0) error in
       rw (
         or-unless at (eqb (s .phase .status .0) ok) (λ n. eq-eqb _ _ (f .status-outside (eqb-false _ _ n))),
-        or-where at (errorStatus (s .phase .status .0)) (λ h. f .status-inside (eqb-true _ _ h)),
+        or-where at (errorStatus (s .phase .status .0)) (λ h. status-error _ (f .status-inside (eqb-true _ _ h))),
       )
 
   download-kept : downloadRule (s .phase) (s .down) ≡ true
   download-kept =
       let zero : Download → Bool = λ d. eqb (d .place .0) 0 && eqb (d .left) 0 in
-      or-unless (running (s .phase)) (zero (s .down)) (λ n. ap zero (f .no-download n))
+      or-unless (running (s .phase)) (zero (s .down)) (λ n. ap zero (f .no-download (running-false (s .phase) n)))
 
   upload-kept : uploadRule (s .phase) (s .up) ≡ true
   upload-kept =
@@ -317,10 +361,20 @@ module _ (s : Session) (f : Fit s) where
         | no h ↦ rw (f .after-others h)
       ]
 
+  pub fit-near : startOf (appEnd (s .board)) < 2 ^ 32
+  fit-near = omega (arith, f .few-blocks, end-in-flash (s .board))
+
+  range-kept : rangeRule (s .board) (s .up) ≡ true
+  range-kept =
+      facts-inside (s .board) (s .up .first .0) (s .up .len) fit-near
+      (record { some = f .range-some; from = f .range-from; to = f .range-to })
+
   place-kept : placeRule (s .board) (s .phase) (s .down) ≡ true
   place-kept =
       or-where (running (s .phase)) _
-      (λ r. rw (le-leb _ _ (f .place-from r), le-leb _ _ (f .place-to r), le-leb _ _ (f .left-to r)))
+      (λ e.
+      let r = running-true (s .phase) e in
+      facts-lie (s .down .place .0) (s .down .left) (s .board .a .0) (appEnd (s .board)) (f .place-from r) (f .left-to r) fit-near)
 
 -- a session that has all the facts is fit
 pub facts-fit : (s : Session) → Fit s → fitOf s ≡ true
@@ -333,7 +387,7 @@ facts-fit s f =
       download = download-kept s f;
       upload = upload-kept s f;
       after = after-kept s f;
-      range = rw (lt-ltb _ _ (f .range-some), le-leb _ _ (f .range-from), le-leb _ _ (f .range-to));
+      range = range-kept s f;
       place = place-kept s f;
       flags = rw (le-leb _ _ (f .choice), le-leb _ _ (f .flag));
     })
@@ -363,11 +417,8 @@ fresh-fit b sums e =
       upload = le-leb 0 (streamLength (wholeUpload b)) (omega arith);
       after = refl;
       range =
-          rw (
-            lt-ltb 0 len (omega arith),
-            le-leb (b .a .0) (b .a .0) (omega arith),
-            le-leb (startOf (b .a .0) + len) (startOf (appEnd b)) (omega arith),
-          );
+          facts-inside b (b .a .0) len (omega (arith, split-facts b e, end-in-flash b))
+          (record { some = omega arith; from = omega arith; to = omega arith });
       place = refl;
       flags = refl;
     })

@@ -16,6 +16,14 @@ pub either : (a b : Bool) → (a || b) ≡ true → (a ≡ true) ⊎ (b ≡ true
 either true b e = inl refl
 either false b e = inr e
 
+pub one-of : {P : Type 0} (a b : Bool) → (a ≡ true → P) → (b ≡ true → P) → (a || b) ≡ true → P
+one-of true b p q e = p refl
+one-of false b p q e = q e
+
+pub never-true : (a : Bool) → (a ≡ true → ⊥) → a ≡ false
+never-true true n = absurd (n refl)
+never-true false n = refl
+
 -- "b unless a"
 pub unless : (a b : Bool) → (a || b) ≡ true → a ≡ false → b ≡ true
 unless true b e f = absurd (true≢false f)

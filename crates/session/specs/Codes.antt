@@ -1,9 +1,10 @@
 -- The numbers that the host hears for states and statuses.
-use Prim.Native.Nat.{ℕ}
-use mathlib.Core.Bool.{Bool, _||_}
+use Prim.Native.Nat.{ℕ, suc}
+use mathlib.Core.Bool.{Bool, false, cond, _||_}
+use mathlib.Core.List.{List, [], _∷_}
 use lib.Dec.{eqb}
 
--- the six states
+-- the states by name
 abbrev pub idle : ℕ
 idle = 2
 
@@ -22,15 +23,27 @@ uploadIdle = 9
 abbrev pub error : ℕ
 error = 10
 
--- a state of the six
+-- the states, in the order of the paper
+abbrev pub states : List ℕ
+states = idle ∷ downloadSync ∷ downloadIdle ∷ manifestSync ∷ uploadIdle ∷ error ∷ []
+
+-- whether a number is in a list
+abbrev pub isIn : ℕ → List ℕ → Bool
+isIn n [] = false
+isIn n (x ∷ xs) = eqb n x || isIn n xs
+
+-- where in a list a number is; the list's length where it isn't there
+abbrev pub placeIn : ℕ → List ℕ → ℕ
+placeIn n [] = 0
+placeIn n (x ∷ xs) = cond (eqb n x) 0 (suc (placeIn n xs))
+
+-- a number is a state
 abbrev pub knownState : ℕ → Bool
-knownState n =
-    eqb n idle
-    || eqb n downloadSync
-    || eqb n downloadIdle
-    || eqb n manifestSync
-    || eqb n uploadIdle
-    || eqb n error
+knownState n = isIn n states
+
+-- a state's column in tables: its place among the states
+abbrev pub columnOf : ℕ → ℕ
+columnOf n = placeIn n states
 
 -- the status of every state but error
 abbrev pub ok : ℕ

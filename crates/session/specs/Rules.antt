@@ -1,8 +1,8 @@
 -- The rules that a fit session keeps, in the order of the paper.
-use Prim.Native.Nat.{ℕ, _+_}
+use Prim.Native.Nat.{ℕ}
 use mathlib.Core.Bool.{Bool, not, _&&_, _||_}
 use lib.Dec.{eqb, leb, ltb}
-use Rattle.flash.specs.Flash.{startOf}
+use Rattle.flash.specs.Flash.{startOf, inReach, liesIn}
 use Rattle.session.specs.declared.Board.{Board}
 use Rattle.session.specs.declared.Phase.{Phase}
 use Rattle.session.specs.declared.Download.{Download}
@@ -15,7 +15,7 @@ use Rattle.session.specs.Session.{allowedSplit, appEnd, streamLength}
 abbrev pub splitRule : Board → Bool
 splitRule board = allowedSplit (board .a .0) (board .b .0)
 
--- a state of the six
+-- the state is one of the states
 abbrev pub stateRule : Phase → Bool
 stateRule phase = knownState (phase .state .0)
 
@@ -46,10 +46,10 @@ afterRule phase =
     eqb (phase .after .0) idle
     || eqb (phase .state .0) downloadSync && eqb (phase .after .0) downloadIdle
 
--- some bytes that begin at a block and lie wholly in the application
+-- some bytes that begin at a block and lie wholly in the application; a block out of reach is out of range
 abbrev pub inApplication : Board → ℕ → ℕ → Bool
 inApplication board first len =
-    ltb 0 len && leb (board .a .0) first && leb (startOf first + len) (startOf (appEnd board))
+    inReach first && ltb 0 len && liesIn (startOf first) len (board .a .0) (appEnd board)
 
 -- the read range isn't empty and lies in the application
 abbrev pub rangeRule : Board → Upload → Bool
@@ -58,10 +58,7 @@ rangeRule board up = inApplication board (up .first .0) (up .len)
 -- a running download's place lies in the application, its end included, and so do the bytes that remain
 abbrev pub placeRule : Board → Phase → Download → Bool
 placeRule board phase down =
-    not (running phase)
-    || leb (startOf (board .a .0)) (down .place .0)
-    && leb (down .place .0) (startOf (appEnd board))
-    && leb (down .place .0 + down .left) (startOf (appEnd board))
+    not (running phase) || liesIn (down .place .0) (down .left) (board .a .0) (appEnd board)
 
 -- the upload's choice and its prefix flag are 0 or 1
 abbrev pub flagsRule : Upload → Bool

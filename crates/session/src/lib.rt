@@ -1,13 +1,13 @@
 // The session that a board keeps between two requests, the rules that a fit one keeps, and the fresh one.
 // It holds numbers only, so any bytes that a board lends are a session, and a broken one is unfit and nothing worse.
 use flash::Addr;
-use flash::BLOCK;
 use flash::Block;
+use flash::Reach;
 use sums::MOST;
 use sums::Sums;
 ghost use mathlib.Core.Path.{_≡_};
 ghost use mathlib.Core.Bool.{true};
-ghost use Rattle.flash.specs.Flash.{startOf};
+ghost use Rattle.session.specs.Codes.{columnOf};
 ghost use Rattle.session.specs.Session.{allowedSplit, boardOf, appEnd, streamLength, freshOf, zerosOf};
 ghost use Rattle.session.specs.Rules.{stateRule, statusRule, running, downloadRule, uploadRule};
 ghost use Rattle.session.specs.Rules.{afterRule, inApplication, rangeRule, placeRule, flagsRule, fitOf};
@@ -32,6 +32,25 @@ impl State {
     pub const UPLOAD_IDLE: u8 = 9;
 
     pub const ERROR: u8 = 10;
+
+    // How many states there are.
+    pub const COUNT: usize = 6;
+
+    // A state's column in tables, counted in the order above; what is no state comes behind them all.
+    pub fn column(self) -> usize
+        ensures { λ r. ⌜ r ≡ columnOf (self .0) ⌝ }
+    {
+        let state = self.0;
+        match state {
+            State::IDLE => 0,
+            State::DOWNLOAD_SYNC => 1,
+            State::DOWNLOAD_IDLE => 2,
+            State::MANIFEST_SYNC => 3,
+            State::UPLOAD_IDLE => 4,
+            State::ERROR => 5,
+            _ => State::COUNT,
+        }
+    }
 }
 
 #[repr(C)]
@@ -132,13 +151,6 @@ pub fn stream_length(up: Upload) -> u64
     }
 }
 
-// Where a block starts. A block number of a broken session may be any, so this is no address yet.
-fn start(block: Block) -> u64
-    ensures { λ r. ⌜ r ≡ startOf (block .0) ⌝ }
-{
-    (block.0 as u64) * (BLOCK as u64)
-}
-
 impl Session {
     // The session after a fresh start or RESET.
     pub fn fresh(a: Block, b: Block, part0: u32, part1: u32, sums: Sums) -> Session
@@ -152,7 +164,7 @@ impl Session {
             part1: part1,
         };
         let end = app_end(board);
-        let len = (end.0 - a.0) * BLOCK;
+        let len = end.start().0 - a.start().0;
         Session {
             board: board,
             phase: Phase {
@@ -213,12 +225,7 @@ pub fn zeros() -> Session
 fn state_rule(phase: Phase) -> bool
     ensures { λ r. ⌜ r ≡ stateRule phase ⌝ }
 {
-    (phase.state.0 == State::IDLE)
-        | (phase.state.0 == State::DOWNLOAD_SYNC)
-        | (phase.state.0 == State::DOWNLOAD_IDLE)
-        | (phase.state.0 == State::MANIFEST_SYNC)
-        | (phase.state.0 == State::UPLOAD_IDLE)
-        | (phase.state.0 == State::ERROR)
+    phase.state.column() < State::COUNT
 }
 
 fn status_rule(phase: Phase) -> bool
@@ -261,12 +268,14 @@ fn after_rule(phase: Phase) -> bool
         | ((phase.state.0 == State::DOWNLOAD_SYNC) & (phase.after.0 == State::DOWNLOAD_IDLE))
 }
 
-// Whether `len` bytes from block `first` on are some and lie in the application; 64 bits hold the sum at any length.
+// Whether `len` bytes from block `first` on are some and lie in the application. A broken session's blocks may be any.
 pub fn in_application(board: Board, first: Block, len: u32) -> bool
     ensures { λ r. ⌜ r ≡ inApplication board (first .0) len ⌝ }
 {
-    let end = start(app_end(board));
-    (0 < len) & (board.a.0 <= first.0) & (start(first) + (len as u64) <= end)
+    let Reach::At(at) = first.address() else {
+        return false;
+    };
+    (0 < len) & at.lies_in(len, board.a, app_end(board))
 }
 
 fn range_rule(board: Board, up: Upload) -> bool
@@ -278,10 +287,7 @@ fn range_rule(board: Board, up: Upload) -> bool
 fn place_rule(board: Board, phase: Phase, down: Download) -> bool
     ensures { λ r. ⌜ r ≡ placeRule board phase down ⌝ }
 {
-    let end = start(app_end(board));
-    let place = down.place.0 as u64;
-    !runs(phase)
-        | ((start(board.a) <= place) & (place <= end) & (place + (down.left as u64) <= end))
+    !runs(phase) | down.place.lies_in(down.left, board.a, app_end(board))
 }
 
 fn flags_rule(up: Upload) -> bool

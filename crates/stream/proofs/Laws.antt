@@ -1,14 +1,15 @@
 -- Laws of the streams: which one is chosen, how long it is, what its header says, and the desk examples.
 -- Assumes nothing.
-use Prim.Native.Nat.{ℕ, _+_, _-_, _*_, _/_, _%_, _^_, _≤_, _<_, min}
+use Prim.Native.Nat.{ℕ, _+_, _-_, _^_, _≤_, _<_, min}
 use mathlib.Core.Path.{_≡_, refl, ap, ap₂, _∙_}
 use mathlib.Core.Bool.{Bool, true, false, cond}
 use mathlib.Core.List.{List, [], _∷_, _++_}
-use native.Mathlib.Nat.{div-div-eq-div-mul, mod-add-div', mod-eq-of-lt}
 use native.Mathlib.Omega.{arith}
 use lib.Dec.{eqb}
 use lib.ListN.{length, getD, length-append}
 use borrow.Author.Tests.{ne-eqb}
+use Rattle.numbers.specs.Numbers.{wordAt, longAt, bytes2, bytes4}
+use Rattle.numbers.proofs.Laws.{word-back, long-back}
 use Rattle.flash.specs.Flash.{startOf, range, Within}
 use Rattle.flash.proofs.Laws.{length-range}
 use Rattle.sums.specs.Sum.{mostBlocks}
@@ -18,8 +19,8 @@ use Rattle.session.specs.declared.Session.{Session}
 use Rattle.session.specs.Session.{boardOf, appEnd, upOf, flashStream, infoBytes, infoLength, prefixLength, streamLength}
 use Rattle.session.specs.Fit.{Fit}
 use Rattle.session.proofs.Laws.{end-in-flash}
-use Rattle.request.specs.Request.{wordAt}
-use Rattle.stream.specs.Stream.{prog, headerOf, prefixOf, infoStream, streamOf, nextOf, Sendable}
+use Rattle.request.specs.Commands.{prog}
+use Rattle.stream.specs.Stream.{headerOf, prefixOf, infoStream, streamOf, nextOf, Sendable}
 use Rattle.stream.proofs.Giving.{part-length}
 
 -- the prefix, on and off
@@ -87,23 +88,6 @@ module _ (board : Board) (up : Upload) (flash : List ℕ) (inside : startOf (up 
   next-length place asked =
       part-length (streamOf board up flash) place asked ∙ ap (λ (n : ℕ). min asked (n - place)) stream-length
 
--- a number is its four low bytes, if it has no more
-joined :
-    (n a b d w x y z : ℕ) → w + a * 256 ≡ n → x + b * 256 ≡ a → y + d * 256 ≡ b → z ≡ d
-    → w + x * 256 + (y + z * 256) * 65536 ≡ n
-joined n a b d w x y z e f g h = omega arith
-
-pub four-bytes :
-    (n : ℕ) → n < 2 ^ 32 → n % 256 + n / 256 % 256 * 256 + (n / 65536 % 256 + n / 16777216 % 256 * 256) * 65536 ≡ n
-four-bytes n h =
-    let high : n / 256 / 256 ≡ n / 65536 = div-div-eq-div-mul n 256 256 in
-    let top : n / 65536 / 256 ≡ n / 16777216 = div-div-eq-div-mul n 65536 256 in
-    joined n (n / 256) (n / 65536) (n / 16777216) _ _ _ _
-    (mod-add-div' n 256)
-    (rw high at (mod-add-div' (n / 256) 256))
-    (rw top at (mod-add-div' (n / 65536) 256))
-    (mod-eq-of-lt (omega arith))
-
 -- what the header says, read back as a command
 module _ (up : Upload) where
   pub header-command : getD (headerOf up) 0 0 ≡ prog
@@ -114,13 +98,13 @@ module _ (up : Upload) where
   unfolding headerOf
   header-ignored = refl
 
-  pub header-block : up .first .0 < 65536 → wordAt (headerOf up) 2 ≡ up .first .0
+  pub header-block : up .first .0 < 2 ^ 16 → wordAt (headerOf up) 2 ≡ up .first .0
   unfolding headerOf
-  header-block h = omega arith
+  header-block h = word-back (prog ∷ 0 ∷ []) (bytes4 (up .len)) (up .first .0) h
 
-  pub header-len : up .len < 2 ^ 32 → wordAt (headerOf up) 4 + wordAt (headerOf up) 6 * 65536 ≡ up .len
+  pub header-len : up .len < 2 ^ 32 → longAt (headerOf up) 4 ≡ up .len
   unfolding headerOf
-  header-len h = four-bytes (up .len) h
+  header-len h = long-back ((prog ∷ 0 ∷ []) ++ bytes2 (up .first .0)) [] (up .len) h
 
 -- what can be sent lies in flash, at 32-bit addresses
 module _ {board : Board} {up : Upload} {flash : List ℕ} {place asked room : ℕ} (s : Sendable board up flash place asked room) where

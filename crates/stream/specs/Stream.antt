@@ -1,29 +1,17 @@
 -- The two streams that an upload can choose, and the bytes of one that an answer brings.
-use Prim.Native.Nat.{ℕ, _+_, _/_, _%_, _≤_}
+use Prim.Native.Nat.{ℕ, _+_, _≤_}
 use mathlib.Core.Path.{_≡_}
 use mathlib.Core.Bool.{cond}
 use mathlib.Core.List.{List, [], _∷_, _++_}
 use lib.Dec.{eqb}
 use lib.ListN.{length, take, drop}
+use Rattle.numbers.specs.Numbers.{bytes2, bytes4}
 use Rattle.flash.specs.Flash.{blockSize, startOf, range}
 use Rattle.sums.specs.Sum.{mostBlocks}
 use Rattle.session.specs.declared.Board.{Board}
 use Rattle.session.specs.declared.Upload.{Upload}
 use Rattle.session.specs.Session.{appEnd, infoBytes, streamLength}
-
--- the low two, three and four bytes of a number, little-endian
-abbrev pub bytes2 : ℕ → List ℕ
-bytes2 n = n % 256 ∷ n / 256 % 256 ∷ []
-
-abbrev pub bytes3 : ℕ → List ℕ
-bytes3 n = n % 256 ∷ n / 256 % 256 ∷ n / 65536 % 256 ∷ []
-
-abbrev pub bytes4 : ℕ → List ℕ
-bytes4 n = n % 256 ∷ n / 256 % 256 ∷ n / 65536 % 256 ∷ n / 16777216 % 256 ∷ []
-
--- the number of the PROG command
-abbrev pub prog : ℕ
-prog = 1
+use Rattle.request.specs.Commands.{prog}
 
 -- a PROG header for the read range: the command, a byte that is ignored, the block, the length
 unfoldable pub headerOf : Upload → List ℕ

@@ -1,65 +1,27 @@
 // The bytes that an upload reads: the info bytes, or a PROG header for the read range and then the range.
-use flash::Addr;
 use flash::BLOCK;
-use flash::Block;
-use flash::Reach;
+use request::Command;
 use session::Board;
 use session::Upload;
 ghost use Prim.Native.Nat.{_+_, _^_, _≤_, _<_, min};
 ghost use mathlib.Core.Path.{_≡_};
-ghost use mathlib.Core.List.{[], _∷_, _++_};
+ghost use mathlib.Core.List.{_++_};
 ghost use lib.ListN.{length, getD, take, drop};
 ghost use Rattle.flash.specs.Flash.{startOf, Within, range};
 ghost use Rattle.session.specs.Session.{appEnd, infoLength, prefixLength};
-ghost use Rattle.stream.specs.Stream.{bytes2, bytes4, headerOf, prefixOf, infoStream, nextOf, Sendable, Sent};
-
-// The number of the command that starts a download; a prefix begins with it, so that what was read can be sent back as it is.
-const PROG: u8 = 1;
-
-// The low bytes of a number, lowest first.
-struct Two(u8, u8);
-
-struct Four(u8, u8, u8, u8);
-
-fn low2(n: u32) -> Two
-    ensures { λ r. ⌜ (r .0 ∷ r .1 ∷ []) ≡ bytes2 n ⌝ }
-{
-    Two((n % 256) as u8, (n / 256 % 256) as u8)
-}
-
-fn low4(n: u32) -> Four
-    ensures { λ r. ⌜ (r .0 ∷ r .1 ∷ r .2 ∷ r .3 ∷ []) ≡ bytes4 n ⌝ }
-{
-    Four(
-        (n % 256) as u8,
-        (n / 256 % 256) as u8,
-        (n / 65536 % 256) as u8,
-        (n / 16_777_216 % 256) as u8,
-    )
-}
-
-// Where a block starts, of those few that can't be out of the conversion's reach.
-fn start(block: Block) -> Addr
-    requires { ⌜ startOf (block .0) < 2 ^ 32 ⌝ }
-    ensures { λ r. ⌜ r .0 ≡ startOf (block .0) ⌝ }
-{
-    match block.address() {
-        Reach::At(at) => at,
-        Reach::Past => Addr(0),
-    }
-}
+ghost use Rattle.stream.specs.Stream.{headerOf, prefixOf, infoStream, nextOf, Sendable, Sent};
 
 // The info bytes.
 fn info(board: Board) -> [u8; 20]
     requires { ⌜ (startOf (appEnd board) < 2 ^ 32) × (startOf (board .a .0) < 2 ^ 32) ⌝ }
     ensures { λ r. ⌜ r ≡ infoStream board ⌝ }
 {
-    let size = low2(BLOCK);
-    let blocks = low2(board.b.0);
-    let part0 = low4(board.part0);
-    let part1 = low4(board.part1);
-    let end = low4(start(session::app_end(board)).0);
-    let begin = low4(start(board.a).0);
+    let size = numbers::low2(BLOCK);
+    let blocks = numbers::low2(board.b.0);
+    let part0 = numbers::low4(board.part0);
+    let part1 = numbers::low4(board.part1);
+    let end = numbers::low4(session::app_end(board).start().0);
+    let begin = numbers::low4(board.a.start().0);
     [
         size.0,
         size.1,
@@ -84,13 +46,22 @@ fn info(board: Board) -> [u8; 20]
     ]
 }
 
-// A PROG header for the read range.
+// A PROG header for the read range, so that what was read can be sent back as it is.
 fn header(up: Upload) -> [u8; 8]
     ensures { λ r. ⌜ r ≡ headerOf up ⌝ }
 {
-    let block = low2(up.first.0);
-    let len = low4(up.len);
-    [PROG, 0, block.0, block.1, len.0, len.1, len.2, len.3]
+    let block = numbers::low2(up.first.0);
+    let len = numbers::low4(up.len);
+    [
+        Command::PROG,
+        0,
+        block.0,
+        block.1,
+        len.0,
+        len.1,
+        len.2,
+        len.3,
+    ]
 }
 
 fn lesser(a: usize, b: usize) -> usize
@@ -140,7 +111,7 @@ fn read_range(up: Upload, flash: &[u8]) -> &[u8]
     requires { ⌜ Within (now flash) (startOf (up .first .0)) (up .len) ⌝ }
     ensures { λ r. ⌜ now r ≡ range (now (flash .entry)) (startOf (up .first .0)) (up .len) ⌝ }
 {
-    let from = start(up.first).0 as usize;
+    let from = up.first.start().0 as usize;
     let to = from + up.len as usize;
     &flash[from..to]
 }

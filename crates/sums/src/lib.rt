@@ -1,7 +1,6 @@
 // The kept sums of a flash: one for each application block and one over the whole application, made fresh and refreshed
 // after blocks changed. The application is given by its first block and the block after its last.
 use flash::Block;
-use flash::Reach;
 ghost use Prim.Native.Nat.{_≤_, _<_};
 ghost use mathlib.Core.Path.{_≡_};
 ghost use lib.ListN.{length};
@@ -23,15 +22,9 @@ fn sum_of(flash: &[u8], first: Block, stop: Block) -> u32
     requires { ⌜ Split (now flash) (first .0) (stop .0) ⌝ }
     ensures { λ r. ⌜ r ≡ crcOf (blocksOf (now (flash .entry)) (first .0) (stop .0)) ⌝ }
 {
-    let Reach::At(from) = first.address() else {
-        return 0;
-    };
-    let Reach::At(to) = stop.address() else {
-        return 0;
-    };
-    let start = from.0 as usize;
-    let end = to.0 as usize;
-    crc::sum(&flash[start..end])
+    let from = first.start().0 as usize;
+    let to = stop.start().0 as usize;
+    crc::sum(&flash[from..to])
 }
 
 // The sums after blocks `first` to the one before `stop` changed.

@@ -3,9 +3,6 @@ use mathlib.Core.Path.{ap, _∙_}
 use mathlib.Core.Logic.{inl}
 use native.Mathlib.Omega.{arith}
 use borrow.Author.Tests.{le-leb, lt-leb, eq-eqb, ne-eqb}
-use mathlib.Core.Bool.{true}
-use mathlib.Core.Path.{_≡_}
-use Rattle.session.specs.Rules.{running}
 use Rattle.session.proofs.Laws.{fit-facts, fit-kept, split-facts, end-in-flash}
 use Rattle.moves.specs.declared.Outcome.{Outcome}
 use Rattle.jobs.specs.declared.Job.{Job}
@@ -55,8 +52,7 @@ write-requires c κs =
     let f = fit-facts (s .args .s) (s .pre .0) in
     let k = split-facts (s .args .s .board) (fit-kept (s .args .s) (s .pre .0) .split) in
     let ends = end-in-flash (s .args .s .board) in
-    let r : running (s .args .s .phase) ≡ true = rw (s .pre .1) in
-    omega (arith, f .left-to r, t .if2 .left, k, ends)
+    omega (arith, f .left-to (inl (s .pre .1)), t .if2 .left, k, ends)
 
 returns-3 : tie.Need-returns-3
 unfolding pieceOf

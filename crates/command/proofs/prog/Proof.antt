@@ -3,7 +3,6 @@ use Prim.Native.Nat.{ℕ, _-_}
 use mathlib.Core.Path.{ap, _∙_}
 use native.Mathlib.Omega.{arith}
 use borrow.Author.Tests.{le-leb, lt-leb}
-use Rattle.flash.proofs.Reaching.{reached, unreached}
 use Rattle.jobs.proofs.Picks.{yes-is, no-is, refused, passed}
 use Rattle.command.proofs.Laws.{ready-range}
 use Rattle.command.specs.Download.{progOf, wroteOf}
@@ -52,26 +51,13 @@ returns-3 c =
     (yes-is _ _ _ _ (le-leb _ _ (t .if2 .left))
     (no-is _ _ _ _ (refused _ _ (c .before .before .erased .ensures) (c .before .if3 .taken)) (c .fault3 .ensures)))
 
-address-requires : tie.Need-address-requires
-address-requires c κs = search needs
-
-enum-known-at : tie.Need-enum-known-at
-enum-known-at c = search needs
-
-enum-told : tie.Need-enum-told
-enum-told c = search needs
-
-fault-requires-4 : tie.Need-fault-requires-4
-fault-requires-4 c κs = search needs
-
-returns-4 : tie.Need-returns-4
-returns-4 c =
-    let a = c .before .before .before in
-    let i = a .before .before .before .before in
+start-requires : tie.Need-start-requires
+start-requires c κs =
+    let i = c .before .before .before in
     let s = i .before .before .before in
     let in-app = passed _ _ (i .before .in-application .ensures) (i .if1 .left) in
     let w = ready-range _ _ (s .pre) (s .args .block .0) (s .args .len) in-app in
-    absurd (unreached (s .args .block .0) _ (c .before .enum-told .given .1) (a .address .ensures) (omega (arith, w .addressed)))
+    omega (arith, w .addressed)
 
 cast-write : tie.Need-cast-write
 cast-write c = search needs
@@ -84,30 +70,25 @@ sub-write c = search needs
 
 write-requires : tie.Need-write-requires
 write-requires c κs =
-    let k = c .before in
-    let t = k .before .before .before .before .before in
+    let t = c .before .before .before in
     let i = t .before in
     let s = i .before .before .before in
     let in-app = passed _ _ (i .before .in-application .ensures) (i .if1 .left) in
     let w = ready-range _ _ (s .pre) (s .args .block .0) (s .args .len) in-app in
-    let e = reached (s .args .block .0) _ _ (k .at .given .1) (k .before .before .address .ensures) in
-    omega (arith, e, w .addressed, t .if2 .left)
+    omega (arith, c .start .ensures, w .addressed, t .if2 .left)
 
-returns-5 : tie.Need-returns-5
+returns-4 : tie.Need-returns-4
 unfolding progOf
-returns-5 c =
+returns-4 c =
     let k = c .before .before in
-    let a = k .before .before in
-    let t = a .before .before .before in
+    let t = k .before .before in
     let i = t .before in
     let s = i .before .before .before in
-    let in-app = passed _ _ (i .before .in-application .ensures) (i .if1 .left) in
-    let w = ready-range _ _ (s .pre) (s .args .block .0) (s .args .len) in-app in
-    let e = reached (s .args .block .0) _ _ (k .at .given .1) (a .address .ensures) in
-    yes-is _ _ _ _ in-app
+    yes-is _ _ _ _ (passed _ _ (i .before .in-application .ensures) (i .if1 .left))
     (yes-is _ _ _ _ (le-leb _ _ (t .if2 .left))
-    (yes-is _ _ _ _ (passed _ _ (a .before .before .erased .ensures) (a .before .if3 .left))
-    (c .write .ensures ∙ ap (λ (at : ℕ). wroteOf (s .args .s) at 8 (s .args .n) (s .args .len - s .args .n)) e)))
+    (yes-is _ _ _ _ (passed _ _ (k .before .erased .ensures) (k .if3 .left))
+    (c .write .ensures
+    ∙ ap (λ (at : ℕ). wroteOf (s .args .s) at 8 (s .args .n) (s .args .len - s .args .n)) (c .before .start .ensures))))
 
 pub prog-spec : {M : Type 1} → statement M
 prog-spec =
@@ -121,13 +102,9 @@ prog-spec =
     erased-requires
     fault-requires-3
     returns-3
-    address-requires
-    enum-known-at
-    enum-told
-    fault-requires-4
-    returns-4
+    start-requires
     cast-write
     cast-write-2
     sub-write
     write-requires
-    returns-5)
+    returns-4)

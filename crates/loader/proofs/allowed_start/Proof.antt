@@ -1,5 +1,8 @@
--- By the split and the product. Assumes nothing.
+-- An allowed B is in reach. Assumes nothing.
+use mathlib.Core.Path.{_∙_}
+use Rattle.session.specs.Session.{allowedSplit}
 use Rattle.loader.specs.Step.{startable}
+use Rattle.loader.proofs.Laws.{same-behind, split-ends}
 use borrow.Author.Needs.{needs}
 use Rattle.loader.proofs.allowed_start.Statement.{statement}
 use Rattle.loader.proofs.allowed_start.Tie as tie
@@ -7,19 +10,17 @@ use Rattle.loader.proofs.allowed_start.Tie as tie
 allowed-split-requires : tie.Need-allowed-split-requires
 allowed-split-requires c κs = search needs
 
-cast-result : tie.Need-cast-result
-cast-result c = search needs
-
-cast-result-2 : tie.Need-cast-result-2
-cast-result-2 c = search needs
-
-mul-result : tie.Need-mul-result
-mul-result c = search needs
+ends-requires : tie.Need-ends-requires
+ends-requires c κs = search needs
 
 returns : tie.Need-returns
 unfolding startable
-returns c = rw (c .before .allowed-split .ensures)
+returns c =
+    let s = c .before .before in
+    let a = s .args .a .0 in
+    let b = s .args .b .0 in
+    rw (c .before .allowed-split .ensures, c .ends .ensures)
+    (same-behind (allowedSplit a b) _ _ (split-ends a b (s .args .flash-len)))
 
 pub allowed-start-spec : {M : Type 1} → statement M
-allowed-start-spec =
-    tie.close (tie.spec allowed-split-requires cast-result cast-result-2 mul-result returns)
+allowed-start-spec = tie.close (tie.spec allowed-split-requires ends-requires returns)

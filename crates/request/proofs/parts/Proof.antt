@@ -27,7 +27,13 @@ word-requires-3 c κs = search needs
 returns-2 : tie.Need-returns-2
 unfolding setupOf
 returns-2 c =
-    rw (eq-eqb _ _ (c .before .before .before .before .before .if1 .left), c .word3 .ensures .0, c .before .word2 .ensures .0, c .before .before .word .ensures .0)
+    let value = c .before .before in
+    rw (
+      eq-eqb _ _ (value .before .before .before .if1 .left),
+      value .word .ensures .0,
+      c .before .word2 .ensures .0,
+      c .word3 .ensures .0,
+    )
 
 pub parts-spec : {M : Type 1} → statement M
 parts-spec =

@@ -1,26 +1,50 @@
--- The places compared are those that `start` and `app_end` answer.
+-- A block out of reach is out of range; of any other, what `lies_in` answers. Assumes nothing.
+use Rattle.flash.proofs.Reaching.{unreached-out}
+use Rattle.session.proofs.Laws.{range-lies}
 use borrow.Author.Needs.{needs}
 use Rattle.session.proofs.in_application.Statement.{statement}
 use Rattle.session.proofs.in_application.Tie as tie
 
-app-end-requires : tie.Need-app-end-requires
-app-end-requires c κs = search needs
+address-requires : tie.Need-address-requires
+address-requires c κs = search needs
 
-start-requires : tie.Need-start-requires
-start-requires c κs = search needs
+enum-known-at : tie.Need-enum-known-at
+enum-known-at c = search needs
 
-start-requires-2 : tie.Need-start-requires-2
-start-requires-2 c κs = search needs
-
-add-result : tie.Need-add-result
-add-result c = search needs
+enum-told : tie.Need-enum-told
+enum-told c = search needs
 
 returns : tie.Need-returns
 returns c =
-    let at-end = c .before .before .before in
-    rw (c .start2 .ensures, at-end .start .ensures, at-end .before .app-end .ensures)
+    let asked = c .before .before in
+    rw (unreached-out (asked .before .args .first .0) _ (c .enum-told .given .1) (asked .address .ensures))
+
+app-end-requires : tie.Need-app-end-requires
+app-end-requires c κs = search needs
+
+lies-in-requires : tie.Need-lies-in-requires
+lies-in-requires c κs = search needs
+
+returns-2 : tie.Need-returns-2
+returns-2 c =
+    let end = c .before in
+    let at = end .before .before in
+    let asked = at .before .before in
+    let a = asked .before .args in
+    range-lies (a .board) (a .first .0) (a .len) _ _ _ _
+    (at .at .given .1)
+    (asked .address .ensures)
+    (end .app-end .ensures)
+    (c .lies-in .ensures)
 
 pub in-application-spec : {M : Type 1} → statement M
 in-application-spec =
     tie.close
-    (tie.spec app-end-requires start-requires start-requires-2 add-result returns)
+    (tie.spec
+    address-requires
+    enum-known-at
+    enum-told
+    returns
+    app-end-requires
+    lies-in-requires
+    returns-2)

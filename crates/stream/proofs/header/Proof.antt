@@ -2,7 +2,8 @@
 use Prim.Native.Nat.{ℕ}
 use mathlib.Core.Path.{ap₂}
 use mathlib.Core.List.{List, [], _∷_, _++_}
-use Rattle.stream.specs.Stream.{prog, headerOf}
+use Rattle.request.specs.Commands.{prog}
+use Rattle.stream.specs.Stream.{headerOf}
 use borrow.Author.Needs.{needs}
 use Rattle.stream.proofs.header.Statement.{statement}
 use Rattle.stream.proofs.header.Tie as tie

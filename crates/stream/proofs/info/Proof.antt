@@ -3,7 +3,8 @@ use mathlib.Core.Path.{_≡_, ap, ap₂, _∙_}
 use mathlib.Core.List.{List, _++_}
 use Prim.Native.Nat.{ℕ}
 use Rattle.flash.specs.Flash.{startOf}
-use Rattle.stream.specs.Stream.{bytes4, infoStream}
+use Rattle.numbers.specs.Numbers.{bytes4}
+use Rattle.stream.specs.Stream.{infoStream}
 use borrow.Author.Needs.{needs}
 use Rattle.stream.proofs.info.Statement.{statement}
 use Rattle.stream.proofs.info.Tie as tie

@@ -1,91 +1,53 @@
--- The two conversions give the ends of the part, which lies in flash. Assumes nothing.
-use mathlib.Core.Path.{_≡_, ap, _∙_}
-use Rattle.flash.specs.Flash.{startOf}
+-- The part's ends are where the two blocks start. Assumes nothing.
+use mathlib.Core.Path.{ap, _∙_}
 use Rattle.crc.specs.Crc.{crcOf}
 use Rattle.sums.proofs.Laws.{blocks-part}
-use native.Mathlib.Omega.{arith}
-use Rattle.flash.proofs.Reaching.{reached, unreached}
 use borrow.Author.Needs.{needs}
 use Rattle.sums.proofs.sum_of.Statement.{statement}
 use Rattle.sums.proofs.sum_of.Tie as tie
 
-address-requires : tie.Need-address-requires
-address-requires c κs = search needs
+start-requires : tie.Need-start-requires
+start-requires c κs = search needs
 
-enum-known-from : tie.Need-enum-known-from
-enum-known-from c = search needs
+cast-from : tie.Need-cast-from
+cast-from c = search needs
 
-enum-told : tie.Need-enum-told
-enum-told c = search needs
+start-requires-2 : tie.Need-start-requires-2
+start-requires-2 c κs = search needs
 
-returns : tie.Need-returns
-returns c =
-    let s = c .before .before .before .before in
-    absurd (unreached (s .args .first .0) _ (c .enum-told .given .1) (c .before .before .address .ensures) (omega arith))
-
-address-requires-2 : tie.Need-address-requires-2
-address-requires-2 c κs = search needs
-
-enum-known-to : tie.Need-enum-known-to
-enum-known-to c = search needs
-
-enum-told-2 : tie.Need-enum-told-2
-enum-told-2 c = search needs
-
-returns-2 : tie.Need-returns-2
-returns-2 c =
-    let s = c .before .before .before .before .before .before .before .before in
-    absurd (unreached (s .args .stop .0) _ (c .enum-told2 .given .1) (c .before .before .address2 .ensures) (omega arith))
-
-cast-start : tie.Need-cast-start
-cast-start c = search needs
-
-cast-end : tie.Need-cast-end
-cast-end c = search needs
-
--- where the part begins and ends
-ends : (k : tie.After-known-told2)
-    → (k .before .before .before .before .before .from .given .0 .0 .0 ≡ startOf (k .before .before .before .before .before .before .before .before .before .args .first .0))
-    × (k .before .to .given .0 .0 .0 ≡ startOf (k .before .before .before .before .before .before .before .before .before .args .stop .0))
-ends k =
-    let k1 = k .before .before .before .before in (
-      reached _ _ _ (k1 .before .from .given .1) (k1 .before .before .before .address .ensures),
-      reached _ _ _ (k .before .to .given .1) (k .before .before .before .address2 .ensures),
-    )
+cast-to : tie.Need-cast-to
+cast-to c = search needs
 
 sub-sum : tie.Need-sub-sum
-sub-sum c = omega (arith, ends (c .before .before))
+sub-sum c = search needs
 
 part-sum-start : tie.Need-part-sum-start
-part-sum-start c = omega (arith, ends (c .before .before))
+part-sum-start c = search needs
 
 part-sum-end : tie.Need-part-sum-end
-part-sum-end c = omega (arith, ends (c .before .before))
+part-sum-end c = search needs
 
 sum-requires : tie.Need-sum-requires
 sum-requires c κs = search needs
 
-returns-3 : tie.Need-returns-3
-returns-3 c =
-    let e = ends (c .before .before .before .before) in
-    c .sum .ensures ∙ ap crcOf (blocks-part _ _ _ _ _ (e .0) (e .1))
+returns : tie.Need-returns
+returns c =
+    let two = c .before .before .before in
+    let one = two .before .before in
+    let a = one .before .before .args in
+    c .sum .ensures
+    ∙ ap crcOf (blocks-part (a .flash .now) (a .first .0) (a .stop .0) _ _ (one .start .ensures) (two .start2 .ensures))
 
 pub sum-of-spec : {M : Type 1} → statement M
 sum-of-spec =
     tie.close
     (tie.spec
-    address-requires
-    enum-known-from
-    enum-told
-    returns
-    address-requires-2
-    enum-known-to
-    enum-told-2
-    returns-2
-    cast-start
-    cast-end
+    start-requires
+    cast-from
+    start-requires-2
+    cast-to
     sub-sum
     part-sum-start
     part-sum-end
     sum-requires
-    returns-3)
+    returns)

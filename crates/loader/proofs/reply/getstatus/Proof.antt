@@ -1,10 +1,10 @@
 -- The bytes are made of what the calls answer. Assumes nothing.
-use Prim.Native.Nat.{ℕ, _/_, _%_}
-use mathlib.Core.List.{[], _∷_}
-use Rattle.session.specs.declared.Session.{Session}
-use Rattle.loader.specs.Reply.{answered, polled}
+use Prim.Native.Nat.{ℕ}
+use mathlib.Core.List.{List, [], _∷_, _++_}
 use mathlib.Core.Path.{ap, ap₂, _∙_}
-use Rattle.loader.specs.Reply.{getstatusOf}
+use Rattle.numbers.specs.Numbers.{bytes3}
+use Rattle.session.specs.declared.Session.{Session}
+use Rattle.loader.specs.Reply.{answered, polled, getstatusOf}
 use borrow.Author.Needs.{needs}
 use Rattle.loader.proofs.reply.getstatus.Statement.{statement}
 use Rattle.loader.proofs.reply.getstatus.Tie as tie
@@ -12,14 +12,8 @@ use Rattle.loader.proofs.reply.getstatus.Tie as tie
 poll-time-requires : tie.Need-poll-time-requires
 poll-time-requires c κs = search needs
 
-cast-t6 : tie.Need-cast-t6
-cast-t6 c = search needs
-
-cast-t9 : tie.Need-cast-t9
-cast-t9 c = search needs
-
-cast-t12 : tie.Need-cast-t12
-cast-t12 c = search needs
+low3-requires : tie.Need-low3-requires
+low3-requires c κs = search needs
 
 next-requires : tie.Need-next-requires
 next-requires c κs = search needs
@@ -41,22 +35,23 @@ unfolding getstatusOf
 returns c =
     let k = c .before .before in
     let p = k .before .before .before in
-    let s = p .before .before .before .before in
+    let l = p .before .before in
+    let s = l .before .before .before in
     let status = s .args .s .phase .status .0 in
-    let wait = p .before .before .poll-time .result in
+    let wait = l .low3 .ensures ∙ ap bytes3 (l .before .poll-time .ensures) in
+    let w = l .low3 .result in
+    let made : List ℕ → ℕ → List ℕ = λ x e. (status ∷ []) ++ x ++ (e ∷ 0 ∷ []) in
     let reply = s .args .reply .now in
     k .answer .ensures
-    ∙ ap (λ (t : Session). answered t (status ∷ wait % 256 ∷ wait / 256 % 256 ∷ wait / 65536 % 256 ∷ p .before .next .result ∷ 0 ∷ []) reply) (p .poll .ensures)
-    ∙ ap₂ (λ (w e : ℕ). answered (polled (s .args .s)) (status ∷ w % 256 ∷ w / 256 % 256 ∷ w / 65536 % 256 ∷ e ∷ 0 ∷ []) reply) (p .before .before .poll-time .ensures) (p .before .next .ensures)
+    ∙ ap (λ (t : Session). answered t (made (w .0 ∷ w .1 ∷ w .2 ∷ []) (p .before .next .result)) reply) (p .poll .ensures)
+    ∙ ap₂ (λ (x : List ℕ) (e : ℕ). answered (polled (s .args .s)) (made x e) reply) wait (p .before .next .ensures)
 
 pub getstatus-spec : {M : Type 1} → statement M
 getstatus-spec =
     tie.close
     (tie.spec
     poll-time-requires
-    cast-t6
-    cast-t9
-    cast-t12
+    low3-requires
     next-requires
     poll-requires
     slice-aggregate-answer

@@ -1,29 +1,43 @@
--- The split is allowed, so the application has a block and its bytes fit 32 bits.
+-- The split is allowed, so both ends of the application are in reach and the first comes first.
+use Prim.Native.Nat.{ℕ, _-_, _*_}
+use mathlib.Core.Path.{_≡_}
 use native.Mathlib.Omega.{arith}
-use borrow.Author.Needs.{needs}
-use Rattle.session.specs.Session.{boardOf, freshOf, wholeUpload}
+use Rattle.session.specs.Session.{boardOf, appEnd, freshOf, wholeUpload}
 use Rattle.session.proofs.Laws.{split-facts, end-in-flash, end-after-start}
+use borrow.Author.Needs.{needs}
 use Rattle.session.proofs.Session.fresh.Statement.{statement}
 use Rattle.session.proofs.Session.fresh.Tie as tie
 
 app-end-requires : tie.Need-app-end-requires
 app-end-requires c κs = search needs
 
-sub-len : tie.Need-sub-len
-sub-len c =
-    let entry = c .before .before .before in
-    let board = boardOf (entry .args .a .0) (entry .args .b .0) (entry .args .part0) (entry .args .part1) in
-    omega (arith, end-after-start board (entry .pre))
-
-mul-len : tie.Need-mul-len
-mul-len c =
-    let entry = c .before .before .before in
+start-requires : tie.Need-start-requires
+start-requires c κs =
+    let entry = c .before in
     let board = boardOf (entry .args .a .0) (entry .args .b .0) (entry .args .part0) (entry .args .part1) in
     omega (arith, split-facts board (entry .pre), end-in-flash board)
 
+start-requires-2 : tie.Need-start-requires-2
+start-requires-2 c κs =
+    let entry = c .before .before in
+    let board = boardOf (entry .args .a .0) (entry .args .b .0) (entry .args .part0) (entry .args .part1) in
+    omega (arith, split-facts board (entry .pre))
+
+sub-len : tie.Need-sub-len
+sub-len c =
+    let entry = c .before .before .before .before .before in
+    let board = boardOf (entry .args .a .0) (entry .args .b .0) (entry .args .part0) (entry .args .part1) in
+    omega (arith, end-after-start board (entry .pre))
+
 returns : tie.Need-returns
 unfolding freshOf wholeUpload
-returns c = rw (c .before .before .app-end .ensures)
+returns c =
+    let begin = c .before .before in
+    let end = begin .before in
+    let entry = end .before .before in
+    let board = boardOf (entry .args .a .0) (entry .args .b .0) (entry .args .part0) (entry .args .part1) in
+    let len : end .start .result .0 - begin .start2 .result .0 ≡ (appEnd board - entry .args .a .0) * 1024 = omega arith in
+    rw len
 
 pub fresh-spec : {M : Type 1} → statement M
-fresh-spec = tie.close (tie.spec app-end-requires sub-len mul-len returns)
+fresh-spec = tie.close (tie.spec app-end-requires start-requires start-requires-2 sub-len returns)

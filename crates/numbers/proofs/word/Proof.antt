@@ -3,8 +3,8 @@ use Prim.Native.Nat.{ℕ, _+_, _*_}
 use native.Mathlib.Omega.{arith}
 use mathlib.Core.Path.{ap₂}
 use borrow.Author.Needs.{needs}
-use Rattle.request.proofs.word.Statement.{statement}
-use Rattle.request.proofs.word.Tie as tie
+use Rattle.numbers.proofs.word.Statement.{statement}
+use Rattle.numbers.proofs.word.Tie as tie
 
 shared-slice-read-wide : tie.Need-shared-slice-read-wide
 shared-slice-read-wide c = search needs

@@ -1,0 +1,57 @@
+-- A number that was written is read back: from its bytes alone, and from the place where they stand among others.
+-- Assumes nothing.
+use Prim.Native.Nat.{ℕ, _+_, _*_, _/_, _%_, _^_, _<_}
+use mathlib.Core.List.{List, [], _++_, append-assoc}
+use mathlib.Core.Path.{_≡_, sym, ap, ap₂, _∙_}
+use native.Mathlib.Nat.{div-div-eq-div-mul, mod-add-div', mod-eq-of-lt}
+use native.Mathlib.Omega.{arith}
+use lib.ListN.{length, getD}
+use lib.Seq.{getD-append-add}
+use Rattle.numbers.specs.Numbers.{wordAt, longAt, bytes2, bytes3, bytes4}
+
+-- a number is its low bytes, if it has no more
+pub two-bytes : (n : ℕ) → n < 2 ^ 16 → wordAt (bytes2 n) 0 ≡ n
+two-bytes n h = omega arith
+
+pub three-bytes : (n : ℕ) → n < 2 ^ 24 → wordAt (bytes3 n) 0 + getD (bytes3 n) 2 0 * 65536 ≡ n
+three-bytes n h = let high : n / 256 / 256 ≡ n / 65536 = div-div-eq-div-mul n 256 256 in omega arith
+
+joined :
+    (n a b d w x y z : ℕ) → w + a * 256 ≡ n → x + b * 256 ≡ a → y + d * 256 ≡ b → z ≡ d
+    → w + x * 256 + (y + z * 256) * 65536 ≡ n
+joined n a b d w x y z e f g h = omega arith
+
+pub four-bytes : (n : ℕ) → n < 2 ^ 32 → longAt (bytes4 n) 0 ≡ n
+four-bytes n h =
+    let high : n / 256 / 256 ≡ n / 65536 = div-div-eq-div-mul n 256 256 in
+    let top : n / 65536 / 256 ≡ n / 16777216 = div-div-eq-div-mul n 65536 256 in
+    joined n (n / 256) (n / 65536) (n / 16777216) _ _ _ _
+    (mod-add-div' n 256)
+    (rw high at (mod-add-div' (n / 256) 256))
+    (rw top at (mod-add-div' (n / 65536) 256))
+    (mod-eq-of-lt (omega arith))
+
+-- what stands at a place where a second list has begun stands in that list
+module _ (before after : List ℕ) where
+  byte-on : (at k : ℕ) → at ≡ length before + k → getD (before ++ after) at 0 ≡ getD after k 0
+  byte-on at k e = ap (λ (i : ℕ). getD (before ++ after) i 0) e ∙ getD-append-add before after k 0
+
+  word-on : (at k : ℕ) → at ≡ length before + k → wordAt (before ++ after) at ≡ wordAt after k
+  word-on at k e = ap₂ (λ (x y : ℕ). x + y * 256) (byte-on at k e) (byte-on (at + 1) (k + 1) (omega arith))
+
+  long-on : (at k : ℕ) → at ≡ length before + k → longAt (before ++ after) at ≡ longAt after k
+  long-on at k e = ap₂ (λ (x y : ℕ). x + y * 65536) (word-on at k e) (word-on (at + 2) (k + 2) (omega arith))
+
+-- what was written is read back, whatever stands around it
+module _ (before after : List ℕ) (n : ℕ) where
+  pub word-back : n < 2 ^ 16 → wordAt (before ++ bytes2 n ++ after) (length before) ≡ n
+  word-back h =
+      ap (λ (l : List ℕ). wordAt l (length before)) (append-assoc before (bytes2 n) after)
+      ∙ word-on before (bytes2 n ++ after) (length before) 0 (omega arith)
+      ∙ two-bytes n h
+
+  pub long-back : n < 2 ^ 32 → longAt (before ++ bytes4 n ++ after) (length before) ≡ n
+  long-back h =
+      ap (λ (l : List ℕ). longAt l (length before)) (append-assoc before (bytes4 n) after)
+      ∙ long-on before (bytes4 n ++ after) (length before) 0 (omega arith)
+      ∙ four-bytes n h

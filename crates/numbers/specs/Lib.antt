@@ -1,0 +1,2 @@
+-- What numbers in bytes are.
+pub mod Numbers
