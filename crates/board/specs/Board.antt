@@ -2,19 +2,14 @@
 use Prim.Native.Nat.{ℕ}
 use mathlib.Core.List.{List}
 use Rattle.session.specs.declared.Session.{Session}
-use Rattle.moves.specs.Answers.{Leaves, answerNumber}
-use Rattle.moves.specs.declared.Outcome.{Outcome}
+use Rattle.moves.specs.Answers.{Leaves, Told}
 use Rattle.loader.specs.Step.{startOutcome, stepOf}
 use Rattle.board.specs.declared.Reply.{Reply}
 use Rattle.board.specs.declared.Started.{Started}
 
--- an outcome's answer as its number, with its count of reply bytes
-abbrev pub replyOf : Outcome → Reply
-replyOf o = record { code = answerNumber (o .answer); count = o .count }
-
--- a start's answer as its number, with its session
-abbrev pub startedBy : Outcome → Started
-startedBy o = record { code = answerNumber (o .answer); session = o .session }
+-- what a start leaves, as the board has it
+abbrev pub startedBy : Told → Started
+startedBy t = record { code = t .answer; session = t .session }
 
 -- a start
 unfoldable pub startedOf : List ℕ → ℕ → ℕ → ℕ → ℕ → Started
@@ -30,10 +25,10 @@ pub record Left : Type 0 where
 abbrev pub left : Reply → Session → List ℕ → List ℕ → Left
 left answer session flash reply = record { answer = answer; session = session; flash = flash; reply = reply }
 
--- what a call leaves, its answer as a number
-abbrev pub numbered : Leaves → Left
-numbered l = left (replyOf (l .outcome)) (l .outcome .session) (l .flash) (l .reply)
+-- what a call leaves, as the board has it
+abbrev pub leftBy : Leaves → Left
+leftBy l = left (record { code = l .answer; count = l .count }) (l .session) (l .flash) (l .reply)
 
 -- a request
 unfoldable pub servedOf : Session → List ℕ → List ℕ → List ℕ → List ℕ → Left
-servedOf s flash setup d reply = numbered (stepOf s flash setup d reply)
+servedOf s flash setup d reply = leftBy (stepOf s flash setup d reply)

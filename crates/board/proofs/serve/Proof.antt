@@ -1,6 +1,6 @@
 -- By what `step` leaves, whose answer `number` turns into its number. Assumes nothing.
 use mathlib.Core.Path.{ap}
-use Rattle.board.specs.Board.{numbered, servedOf}
+use Rattle.board.specs.Board.{leftBy, servedOf}
 use borrow.Author.Needs.{needs}
 use Rattle.board.proofs.serve.Statement.{statement}
 use Rattle.board.proofs.serve.Tie as tie
@@ -19,7 +19,7 @@ same-length-2 c = search needs
 
 returns : tie.Need-returns
 unfolding servedOf
-returns c = rw (c .number .ensures) (ap numbered (c .before .before .before .before .before .before .step .ensures))
+returns c = rw (c .number .ensures) (ap leftBy (c .before .before .before .before .before .before .step .ensures))
 
 pub serve-spec : {M : Type 1} → statement M
 serve-spec = tie.close (tie.spec step-requires number-requires same-length same-length-2 returns)
