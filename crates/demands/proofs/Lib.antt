@@ -21,7 +21,6 @@ pub mod TwoStarts
 pub mod TwoMet
 pub mod TiedDesk
 pub mod TiedOne
-pub mod TiedImpostors
 pub mod ReadBackCalls
 pub mod ReadBackSessions
 pub mod ReadBackParts

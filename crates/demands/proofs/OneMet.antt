@@ -11,18 +11,18 @@ use Rattle.flash.specs.Flash.{startOf, blank}
 use Rattle.flash.proofs.Laws.{length-blank}
 use Rattle.sums.specs.Sum.{freshSums}
 use Rattle.session.specs.Session.{appEnd, boardOf, freshOf}
-use Rattle.session.specs.Rules.{fitOf}
+use Rattle.session.specs.Fit.{Fit}
 use Rattle.session.specs.declared.Board.{Board}
-use Rattle.session.proofs.Laws.{fresh-fit}
+use Rattle.session.proofs.Laws.{fit-facts, fresh-fit}
 use Rattle.request.specs.Request.{wordAt, allowedOf, formOf, setupOf}
 use Rattle.request.specs.declared.Request.{Request}
 use Rattle.moves.specs.Moves.{stallOf, faultOf, resetOf}
 use Rattle.command.specs.Download.{wellFormed, carriedOut, commandOf, dnloadOf}
-use Rattle.loader.specs.Step.{served}
-use Rattle.demands.specs.Calls.{Call, Site, called, next}
+use Rattle.loader.specs.Step.{served, stepOf}
+use Rattle.demands.specs.Calls.{heard, Call, Site, called, next}
 use Rattle.demands.specs.Asked.{SaysDnload, Prepared, Form, Allowed, NoRequest}
 use Rattle.demands.specs.Asked.Form.{dnload}
-use Rattle.demands.specs.One.{OutsideApp, heard, InError, AllowedStart}
+use Rattle.demands.specs.One.{OutsideApp, InError, AllowedStart}
 use Rattle.demands.proofs.TwoForms.{no-request}
 use Rattle.demands.proofs.OneOutside.{outside-holds}
 use Rattle.demands.proofs.OneRefused.{refused-holds, unfit-exactly-holds, goes-on}
@@ -58,9 +58,9 @@ unfolding appEnd
 outside-met = (inl (omega arith), inr (omega arith))
 
 -- a fit session
-pub stays-fit-met : fitOf (small .session) ≡ true
+pub stays-fit-met : Fit (small .session)
 unfolding small
-stays-fit-met = fresh-fit smallBoard (freshSums smallFlash 1 2) refl
+stays-fit-met = fit-facts (small .session) (fresh-fit smallBoard (freshSums smallFlash 1 2) refl)
 
 abbrev pub callOf : List ℕ → List ℕ → Call
 callOf setup bytes = record { setup = setup; bytes = bytes; reply = blank 1024 }
@@ -128,18 +128,18 @@ pub allowed-call-met : Form (oneByte .setup) 1 Request.Dnload × Allowed Request
 allowed-call-met = (dnload (record { typed = refl; numbered = refl; no-index = refl; long = refl }) (omega arith), inl (refl, omega arith))
 
 -- each row's answer
-pub stalled-met : heard (called small clrstatus) ≡ 1
+pub stalled-met : heard (called stepOf small clrstatus) ≡ 1
 unfolding small freshOf formOf setupOf allowedOf stallOf
 stalled-met = ap heard (goes-on small clrstatus prepared-met)
 
-pub unfit-met : heard (called small noSetup) ≡ 2
+pub unfit-met : heard (called stepOf small noSetup) ≡ 2
 unfit-met = unfit-exactly-holds .unprepared small noSetup not-prepared-met
 
-pub faulted-met : heard (called small oneByte) ≡ 3
+pub faulted-met : heard (called stepOf small oneByte) ≡ 3
 unfolding small freshOf formOf setupOf allowedOf served dnloadOf commandOf wellFormed faultOf
 faulted-met = ap heard (goes-on small oneByte one-byte-prepared)
 
-pub reset-asked-met : heard (called small resetCommand) ≡ 4
+pub reset-asked-met : heard (called stepOf small resetCommand) ≡ 4
 unfolding small freshOf formOf setupOf allowedOf served dnloadOf commandOf wellFormed carriedOut resetOf
 reset-asked-met = ap heard (goes-on small resetCommand reset-prepared)
 
@@ -147,11 +147,11 @@ reset-asked-met = ap heard (goes-on small resetCommand reset-prepared)
 abbrev pub abort : Call
 abort = callOf (0x21 ∷ 6 ∷ 0 ∷ 0 ∷ 0 ∷ 0 ∷ 0 ∷ 0 ∷ []) []
 
-stalled-once : InError (small .session) (next small clrstatus .session) 0x0F
+stalled-once : InError (small .session) (next stepOf small clrstatus .session) 0x0F
 unfolding next small freshOf
 stalled-once = refused-holds small clrstatus .stalled stalled-met .elsewhere (λ e. omega (arith, e))
 
-abort-prepared : Prepared (next small clrstatus) abort
+abort-prepared : Prepared (next stepOf small clrstatus) abort
 abort-prepared =
     record {
       setup-bytes = refl;
@@ -165,8 +165,8 @@ abort-prepared =
       rules = stays-fit-holds small clrstatus stays-fit-met;
     }
 
-pub in-ten-met : (next small clrstatus .session .phase .state .0 ≡ 10) × (heard (called (next small clrstatus) abort) ≡ 1)
+pub in-ten-met : (next stepOf small clrstatus .session .phase .state .0 ≡ 10) × (heard (called stepOf (next stepOf small clrstatus) abort) ≡ 1)
 unfolding formOf setupOf allowedOf stallOf
 in-ten-met =
     let e = stalled-once .in-state in
-    (e, ap heard (goes-on (next small clrstatus) abort abort-prepared) ∙ rw e)
+    (e, ap heard (goes-on (next stepOf small clrstatus) abort abort-prepared) ∙ rw e)

@@ -17,9 +17,9 @@ use Rattle.command.specs.Download.{wroteOf, infoOf, binOf}
 use Rattle.loader.specs.Reply.{getstatusOf, getstateOf, queryOf, answered}
 use Rattle.loader.specs.Upload.{uploadOf}
 use Rattle.loader.specs.Step.{ready, served, stepOf}
-use Rattle.demands.specs.Calls.{Call, Site, called}
+use Rattle.demands.specs.Calls.{heard, Call, Site, called}
 use Rattle.demands.specs.Asked.{Prepared, Form, Allowed, NoRequest}
-use Rattle.demands.specs.One.{heard, Settled, InError, Stalled, FaultStatus, Faulted, AsFresh, AnswerRows, Refused}
+use Rattle.demands.specs.One.{Settled, InError, Stalled, FaultStatus, Faulted, AsFresh, AnswerRows, Refused}
 use Rattle.demands.specs.One.{UnfitExactly, StalledExactly}
 use Rattle.demands.proofs.Ways.{pick, every-way}
 use Rattle.demands.proofs.Asked.{prepared-ready, ready-prepared}
@@ -103,7 +103,7 @@ in-form at c p q = (
   request-form (c .setup) (p .setup-bytes) Request.Dnload q (λ z. subst (λ (r : Request). Allowed r 0 5) z (inr refl)),
 )
 
-prepared-rows : (at : Site) (c : Call) → Prepared at c → AnswerRows at c (called at c)
+prepared-rows : (at : Site) (c : Call) → Prepared at c → AnswerRows at c (called stepOf at c)
 unfolding called wroteOf infoOf binOf unfitOf stallOf faultOf resetOf getstatusOf getstateOf queryOf answered uploadOf
 prepared-rows at c p =
     let s = at .session in
@@ -162,28 +162,28 @@ unfit-rows at c =
     }
 
 -- a call that the first test refuses
-unready : (at : Site) (c : Call) → ready (at .session) (length (at .flash)) (c .setup) (length (c .bytes)) (length (c .reply)) ≡ false → called at c ≡ leaves (unfitOf (at .session)) (at .flash) (c .reply)
+unready : (at : Site) (c : Call) → ready (at .session) (length (at .flash)) (c .setup) (length (c .bytes)) (length (c .reply)) ≡ false → called stepOf at c ≡ leaves (unfitOf (at .session)) (at .flash) (c .reply)
 unfolding called stepOf
 unready at c e = rw e
 
-pub refused-holds : Refused
+pub refused-holds : Refused stepOf
 refused-holds at c = go (ready (at .session) (length (at .flash)) (c .setup) (length (c .bytes)) (length (c .reply))) refl
   where
     go :
         (t : Bool) → ready (at .session) (length (at .flash)) (c .setup) (length (c .bytes)) (length (c .reply)) ≡ t
-        → AnswerRows at c (called at c)
+        → AnswerRows at c (called stepOf at c)
     go true e = prepared-rows at c (ready-prepared at c e)
     go false e = subst⁻¹ (AnswerRows at c) (unready at c e) (unfit-rows at c)
 
 module _ (at : Site) (c : Call) where
-  unprepared-unfit : (Prepared at c → ⊥) → heard (called at c) ≡ 2
+  unprepared-unfit : (Prepared at c → ⊥) → heard (called stepOf at c) ≡ 2
   unfolding called stepOf unfitOf
   unprepared-unfit n =
       pick (λ (l : Leaves). heard l ≡ 2)
       (ready (at .session) (length (at .flash)) (c .setup) (length (c .bytes)) (length (c .reply))) _ _
       (λ e. absurd (n (ready-prepared at c e))) (λ _. refl)
 
-  prepared-served : Prepared at c → heard (called at c) ≡ 2 → ⊥
+  prepared-served : Prepared at c → heard (called stepOf at c) ≡ 2 → ⊥
   unfolding called wroteOf infoOf binOf stallOf faultOf resetOf getstatusOf getstateOf queryOf answered uploadOf
   prepared-served p =
       every-way (at .session) (at .flash) (c .setup) (c .bytes) (c .reply) (λ (l : Leaves). heard l ≡ 2 → ⊥)
@@ -207,7 +207,7 @@ module _ (at : Site) (c : Call) where
         idles = λ _ h. omega arith;
       })
 
-pub unfit-exactly-holds : UnfitExactly
+pub unfit-exactly-holds : UnfitExactly stepOf
 unfit-exactly-holds = record { unprepared = unprepared-unfit; prepared = prepared-served }
 
 -- whether the table allows what a setup is read as
@@ -217,17 +217,17 @@ allowedCall at c = allowedOf (requestOf (c .setup)) (wLength (c .setup)) (at .se
 -- a prepared call goes on to form and state
 pub goes-on :
     (at : Site) (c : Call) → Prepared at c
-    → called at c
+    → called stepOf at c
     ≡ cond (allowedCall at c)
     (served (requestOf (c .setup)) (at .session) (at .flash) (wLength (c .setup)) (c .bytes) (c .reply))
     (leaves (stallOf (at .session)) (at .flash) (c .reply))
 unfolding called stepOf
 goes-on at c p = rw (prepared-ready at c p)
 
-unallowed-stalls : (at : Site) (c : Call) → Prepared at c → NoRequest at c → heard (called at c) ≡ 1
+unallowed-stalls : (at : Site) (c : Call) → Prepared at c → NoRequest at c → heard (called stepOf at c) ≡ 1
 unfolding stallOf
 unallowed-stalls at c p none = ap heard (asks-stalled at c p none)
 
-pub stalled-exactly-holds : StalledExactly
+pub stalled-exactly-holds : StalledExactly stepOf
 stalled-exactly-holds =
     record { not-allowed = unallowed-stalls; allowed = λ at c r n form a h. refused-holds at c .stalled h .when r n form a }

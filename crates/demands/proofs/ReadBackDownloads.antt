@@ -27,7 +27,7 @@ use Rattle.moves.specs.Answers.{Done, leaves}
 use Rattle.moves.specs.Moves.{movedTo, takenOf}
 use Rattle.command.specs.Download.{longAt, nothing, allErased, sumsAfter, wroteOf, progOf, wellFormed, carriedOut, pieceOf, dnloadOf}
 use Rattle.loader.specs.Reply.{entered, polled}
-use Rattle.loader.specs.Step.{withReply}
+use Rattle.loader.specs.Step.{withReply, stepOf}
 use Rattle.demands.specs.Calls.{Site, called}
 use Rattle.demands.specs.ReadBack.{Host, asks, Ran, run, dnload, poll, sends}
 use Rattle.demands.proofs.ReadBackCalls.{siteOf, on-taken, is-yes, is-no, dnload-called}
@@ -89,7 +89,7 @@ module _
       record { sized = spliced-length g at d (omega arith) ∙ w .sized; from = omega arith; to = omega arith }
 
   polled-piece : (g : List ℕ) (at left : ℕ) (sums : Sums) → Ahead g at left → (h : Host Unit)
-      → run (siteOf (loaded at left sums) g) (asks (poll lent) (λ _. h)) ≡ run (siteOf (loading at left sums) g) h
+      → run stepOf (siteOf (loaded at left sums) g) (asks (poll lent) (λ _. h)) ≡ run stepOf (siteOf (loading at left sums) g) h
   unfolding loaded loading polled entered
   polled-piece g at left sums w h =
       polled-on (loaded at left sums) g lent
@@ -98,7 +98,7 @@ module _
   -- a piece of data
   piece-called :
       (g : List ℕ) (at left : ℕ) (sums : Sums) (d : List ℕ) → Ahead g at left → 0 < length d → length d ≤ 1024 → length d ≤ left
-      → called (siteOf (loading at left sums) g) (dnload lent d)
+      → called stepOf (siteOf (loading at left sums) g) (dnload lent d)
       ≡ leaves
       (takenOf (loaded (at + length d) (left - length d) (sumsAfter board sums (spliced g at d) at (length d))))
       (spliced g at d)
@@ -111,7 +111,7 @@ module _
 
   filled :
       {ps : List (List ℕ)} {xs : List ℕ} → Pieces ps xs → (g : List ℕ) (at left : ℕ) (sums : Sums) → Ahead g at left
-      → left ≡ length xs → Filled (run (siteOf (loading at left sums) g) (sends lent ps)) g at xs
+      → left ≡ length xs → Filled (run stepOf (siteOf (loading at left sums) g) (sends lent ps)) g at xs
   unfolding run sends loading
   filled none g at left sums w e =
       record { taken = refl; flash = spliced-none g at; state = refl; down = ap₂ downOf (omega arith) (omega arith) }
@@ -138,7 +138,7 @@ module _
 
     prog-called :
         (x : List ℕ) → 8 + length x ≤ 1024 → length x ≤ len
-        → called waiting (dnload lent (header ++ x))
+        → called stepOf waiting (dnload lent (header ++ x))
         ≡ leaves
         (takenOf (loaded (startOf block + length x) (len - length x) (sumsAfter board sums (spliced g (startOf block) x) (startOf block) (length x))))
         (spliced g (startOf block) x)
@@ -158,7 +158,7 @@ module _
 
     first-sent :
         {ps : List (List ℕ)} {rest : List ℕ} (x : List ℕ) → Pieces ps rest → 8 + length x ≤ 1024
-        → length x + length rest ≡ len → Filled (run waiting (sends lent ((header ++ x) ∷ ps))) g (startOf block) (x ++ rest)
+        → length x + length rest ≡ len → Filled (run stepOf waiting (sends lent ((header ++ x) ∷ ps))) g (startOf block) (x ++ rest)
     unfolding waiting sends
     first-sent {ps} {rest} x then few sum =
         let at = startOf block in
@@ -176,7 +176,7 @@ module _
     -- the pieces of the header and the range's bytes
     all-sent-as :
         {ps : List (List ℕ)} {xs : List ℕ} (bytes : List ℕ) → Pieces ps xs → xs ≡ header ++ bytes → length bytes ≡ len
-        → Filled (run waiting (sends lent ps)) g (startOf block) bytes
+        → Filled (run stepOf waiting (sends lent ps)) g (startOf block) bytes
     unfolding headerOf
     all-sent-as bytes none e l = absurd (omega (arith, ap length e))
     all-sent-as bytes (more {p} {rest} {ps} some few full then) e l =
@@ -192,13 +192,13 @@ module _
         ∙ ap (λ (h : List ℕ). h ++ x) (sym (take-append-le 8 p rest long) ∙ ap (take 8) e)
         in
         let data-is : x ++ rest ≡ bytes = sym (drop-append-le 8 p rest long) ∙ ap (drop 8) e in
-        subst (λ (d : List ℕ). Filled (run waiting (sends lent (d ∷ ps))) g (startOf block) bytes) (sym first)
-        (subst (λ (d : List ℕ). Filled (run waiting (sends lent ((header ++ x) ∷ ps))) g (startOf block) d) data-is
+        subst (λ (d : List ℕ). Filled (run stepOf waiting (sends lent (d ∷ ps))) g (startOf block) bytes) (sym first)
+        (subst (λ (d : List ℕ). Filled (run stepOf waiting (sends lent ((header ++ x) ∷ ps))) g (startOf block) d) data-is
         (first-sent x then (omega arith) (omega arith)))
 
   pub all-sent :
       (g : List ℕ) (sums : Sums) → length g ≡ startOf (board .b .0) → range g (startOf block) len ≡ blank len
       → {ps : List (List ℕ)} (bytes : List ℕ) → Pieces ps (headerOf (upOf flashStream 1 block len 0) ++ bytes) → length bytes ≡ len
-      → Filled (run (siteOf (inState board block len atIdle noDownload 0 sums) g) (sends lent ps)) g (startOf block) bytes
+      → Filled (run stepOf (siteOf (inState board block len atIdle noDownload 0 sums) g) (sends lent ps)) g (startOf block) bytes
   unfolding waiting
   all-sent g sums sized all-blank bytes parts l = all-sent-as g sums sized all-blank bytes parts refl l

@@ -21,7 +21,7 @@ use Rattle.moves.specs.Answers.{Replied}
 use Rattle.command.specs.Ready.{Ready}
 use Rattle.loader.specs.Reply.{answered}
 use Rattle.loader.specs.Upload.{placeOf, answerOf, uploadEnds, uploadingAt, uploadedOf, uploadOf}
-use Rattle.loader.specs.Step.{withFlash}
+use Rattle.loader.specs.Step.{withFlash, stepOf}
 use Rattle.demands.specs.ReadBack.{Host, ends, asks, Ran, run, upload, keep, joined, gathers, answersOf}
 use Rattle.demands.proofs.ReadBackCalls.{siteOf, on-taken, is-no, upload-called}
 use Rattle.demands.proofs.ReadBackSessions.{inState, image, image-streamed, atIdle, atUpload}
@@ -75,8 +75,8 @@ module _ (board : Board) (block len : ℕ) (sums : Sums) (f lent : List ℕ) whe
 
   uploaded-on :
       {A : Type 0} (s : Session) (p : ℕ) → Reading s p → 1024 ≤ length lent → (go : List ℕ → Host A)
-      → run (siteOf s f) (asks (upload lent) go)
-      ≡ run (siteOf (inState board block len atUpload noDownload (p + length (take 1024 (drop p stream))) sums) f)
+      → run stepOf (siteOf s f) (asks (upload lent) go)
+      ≡ run stepOf (siteOf (inState board block len atUpload noDownload (p + length (take 1024 (drop p stream))) sums) f)
       (go (take 1024 (drop p stream)))
   unfolding uploadOf uploadedOf uploadEnds answerOf nextOf answered
   uploaded-on s p w room go =
@@ -89,7 +89,7 @@ module _ (board : Board) (block len : ℕ) (sums : Sums) (f lent : List ℕ) whe
       in
       on-taken (siteOf s f) (upload lent) go (length a) _ f _
       (upload-called s f lent (w .ready) room (w .allowed) ∙ ap (λ (x : Replied). withFlash x f) given)
-      ∙ ap (λ (x : List ℕ). run (siteOf (inState board block len atUpload noDownload (p + length a) sums) f) (go x))
+      ∙ ap (λ (x : List ℕ). run stepOf (siteOf (inState board block len atUpload noDownload (p + length a) sums) f) (go x))
       (take-append-seam a (drop (length a) lent))
 
   -- what the uploads leave: all taken, the session at the stream's end, and the stream in pieces behind what the host had
@@ -141,7 +141,7 @@ module _ (board : Board) (block len : ℕ) (sums : Sums) (f lent : List ℕ) whe
 
     last-answer :
         (p : ℕ) (got : List (List ℕ)) → p ≤ 8 + len → length (answer p) < 1024
-        → Gathered (run (siteOf (after-answer p) f) (ends (keep got (answer p)))) got (drop p stream)
+        → Gathered (run stepOf (siteOf (after-answer p) f) (ends (keep got (answer p)))) got (drop p stream)
     unfolding run answer after-answer
     last-answer p got h short =
         let l = answer-length p in
@@ -184,10 +184,10 @@ module _ (board : Board) (block len : ℕ) (sums : Sums) (f lent : List ℕ) whe
     by-length :
         (t : Bool) (n p : ℕ) (got : List (List ℕ)) → ltb (length (answer p)) 1024 ≡ t → p ≤ 8 + len
         → (length (answer p) ≡ 1024
-        → Gathered (run (siteOf (after-answer p) f) (gathers lent n (keep got (answer p)))) (keep got (answer p))
+        → Gathered (run stepOf (siteOf (after-answer p) f) (gathers lent n (keep got (answer p)))) (keep got (answer p))
         (drop (p + length (answer p)) stream))
         → Gathered
-        (run (siteOf (after-answer p) f) (cond t (ends (keep got (answer p))) (gathers lent n (keep got (answer p)))))
+        (run stepOf (siteOf (after-answer p) f) (cond t (ends (keep got (answer p))) (gathers lent n (keep got (answer p)))))
         got
         (drop p stream)
     by-length true n p got e h then = last-answer p got h (ltb-true _ _ e)
@@ -199,7 +199,7 @@ module _ (board : Board) (block len : ℕ) (sums : Sums) (f lent : List ℕ) whe
 
     gathered :
         (n p : ℕ) (got : List (List ℕ)) (s : Session) → Reading s p → p ≤ 8 + len → 8 + len < p + n * 1024
-        → Gathered (run (siteOf s f) (gathers lent n got)) got (drop p stream)
+        → Gathered (run stepOf (siteOf s f) (gathers lent n got)) got (drop p stream)
     unfolding gathers answer after-answer
     gathered zero p got s w h enough = absurd (omega arith)
     gathered (suc n) p got s w h enough =
@@ -214,6 +214,6 @@ module _ (board : Board) (block len : ℕ) (sums : Sums) (f lent : List ℕ) whe
         (further (p + length (answer p)) (omega arith)) (omega arith) (omega arith)))
 
     pub all-read :
-        Gathered (run (siteOf (inState board block len atIdle noDownload 0 sums) f) (gathers lent (answersOf (8 + len)) [])) []
+        Gathered (run stepOf (siteOf (inState board block len atIdle noDownload 0 sums) f) (gathers lent (answersOf (8 + len)) [])) []
         (image board block len f)
     all-read = gathered (answersOf (8 + len)) 0 [] (inState board block len atIdle noDownload 0 sums) at-first (omega arith) (omega arith)
