@@ -61,7 +61,7 @@ pub read-called :
     → s .up .«prefix» ≡ 1
     → inApplication (s .board) block len ≡ true
     → called stepOf (siteOf s f) (dnload lent (readCommand block len))
-    ≡ leaves (takenOf (inState (s .board) block len atCommand noDownload 0 (s .sums))) f lent
+    ≡ leaves (takenOf (inState s block len atCommand noDownload 0 (s .sums))) f lent
 unfolding readCommand wellFormed carriedOut readOf movedTo
 read-called s f lent block len r room in-idle prefixed legal =
     let small = near (s .board) block len (fit-kept s (r .fit) .split) legal in
@@ -90,19 +90,19 @@ module _ (board : Board) (block len : ℕ) (sums : Sums) (f : List ℕ) where
   wiped-sums = refreshed sums (erased f block (nextStart len)) (board .a .0) (appEnd board) block (block + nextStart len)
 
 module _
-    (board : Board) (block len : ℕ) (sums : Sums) (f lent : List ℕ) (split : splitRule board ≡ true)
-    (legal : inApplication board block len ≡ true) (sized : length f ≡ startOf (board .b .0)) (room : 1024 ≤ length lent) where
+    (base : Session) (block len : ℕ) (sums : Sums) (f lent : List ℕ) (split : splitRule (base .board) ≡ true)
+    (legal : inApplication (base .board) block len ≡ true) (sized : length f ≡ startOf (base .board .b .0)) (room : 1024 ≤ length lent) where
   pub erase-called :
-      called stepOf (siteOf (inState board block len atIdle noDownload 0 sums) f) (dnload lent (eraseCommand block (nextStart len)))
-      ≡ leaves (takenOf (inState board block len atCommand noDownload 0 (wiped-sums board block len sums f))) (erased f block (nextStart len)) lent
+      called stepOf (siteOf (inState base block len atIdle noDownload 0 sums) f) (dnload lent (eraseCommand block (nextStart len)))
+      ≡ leaves (takenOf (inState base block len atCommand noDownload 0 (wiped-sums (base .board) block len sums f))) (erased f block (nextStart len)) lent
   unfolding eraseCommand wellFormed carriedOut eraseOf movedTo
   erase-called =
-      let s = inState board block len atIdle noDownload 0 sums in
-      let small = near board block len split legal in
+      let s = inState base block len atIdle noDownload 0 sums in
+      let small = near (base .board) block len split legal in
       let count = nextStart len in
       let the-block : wordAt (eraseCommand block count) 2 ≡ block = omega arith in
       let the-count : wordAt (eraseCommand block count) 4 ≡ count = omega arith in
-      command-called s f lent (record { fit = idle-fit board block len split legal sums; sized = sized }) room
+      command-called s f lent (record { fit = idle-fit base block len split legal sums; sized = sized }) room
       (eraseCommand block count) refl refl (omega arith)
       ∙ ap₂ (λ (b n : ℕ). withReply (eraseOf s f b n) lent) the-block the-count
-      ∙ ap (λ (x : Done). withReply x lent) (is-yes _ _ _ (blocks-legal board block len legal))
+      ∙ ap (λ (x : Done). withReply x lent) (is-yes _ _ _ (blocks-legal (base .board) block len legal))

@@ -11,7 +11,7 @@ use Rattle.flash.specs.Flash.{startOf, blank}
 use Rattle.flash.proofs.Laws.{length-blank, spliced-length}
 use Rattle.sums.specs.Sum.{refreshed, freshSums}
 use Rattle.sums.specs.declared.Sums.{Sums}
-use Rattle.session.specs.Session.{boardOf, phaseOf, downOf, upOf, appEnd, streamLength, wholeUpload, freshOf}
+use Rattle.session.specs.Session.{boardOf, phaseOf, downOf, appEnd, streamLength, withPhase, withDown, wholeUpload, freshOf}
 use Rattle.session.specs.Rules.{fitOf}
 use Rattle.session.specs.declared.Session.{Session}
 use Rattle.request.specs.Request.{setupOf, formOf, requestOf, wLength, dataAsked, allowedOf}
@@ -24,7 +24,7 @@ use Rattle.loader.specs.Step.{startable, freshStart, startOutcome, served, step
 use Rattle.demands.specs.Calls.{Call, Site, begun, called, next, after}
 use Rattle.demands.specs.Asked.{Prepared}
 use Rattle.demands.proofs.Asked.{prepared-from}
-use Rattle.demands.specs.Tied.{Case, Meets, Expected, All, Desk, freshSite, getStatus, eraseAll, wiped, marred, progOne, progZero, seven, close, case, deskCases}
+use Rattle.demands.specs.Tied.{Case, Meets, Expected, All, none, _and_, Desk, freshSite, getStatus, eraseAll, wiped, marred, progOne, progZero, seven, close, case, deskCases}
 use Rattle.demands.proofs.Bytes.{erased-length, erased-part, not-erased, spliced-none, spliced-byte}
 use Rattle.demands.proofs.TwoLaws.{sound-served, sound-stalled, next-from}
 
@@ -41,13 +41,7 @@ module _ (p q : ℕ) (f buffer : List ℕ) (sized : length f ≡ startOf 64) (ro
   -- the session of the examples in a state, with a status, a state after sync, a download and its sums
   abbrev held : ℕ → ℕ → ℕ → ℕ → ℕ → Sums → Session
   held state status after place left sums =
-      record {
-        board = boardOf 16 64 p q;
-        phase = phaseOf state status after;
-        down = downOf place left;
-        up = upOf 0 1 16 49152 0;
-        sums = sums;
-      }
+      withDown (withPhase (freshOf (boardOf 16 64 p q) sums) (phaseOf state status after)) (downOf place left)
 
   abbrev site : Session → List ℕ → Site
   site s g = record { session = s; flash = g }
@@ -91,15 +85,15 @@ module _ (p q : ℕ) (f buffer : List ℕ) (sized : length f ≡ startOf 64) (ro
   -- where the calls lead to
   module _ (sums : Sums) where
     after-erase : next stepOf (site (held 2 0 2 0 0 sums) f) (eraseAll buffer) ≡ site (held 3 0 2 0 0 (refreshed sums w 16 64 16 64)) w
-    unfolding fitOf streamLength appEnd dataAsked setupOf formOf allowedOf served dnloadOf commandOf wellFormed carriedOut eraseOf movedTo
+    unfolding fitOf streamLength freshOf wholeUpload appEnd dataAsked setupOf formOf allowedOf served dnloadOf commandOf wellFormed carriedOut eraseOf movedTo
     after-erase = next-from _ _ _ (serves (held 2 0 2 0 0 sums) f (eraseAll buffer) refl sized refl refl refl refl refl)
 
     after-seven : next stepOf (site (held 2 0 2 0 0 sums) f) (seven buffer) ≡ site (held 10 0x0B 2 0 0 sums) f
-    unfolding fitOf streamLength appEnd dataAsked setupOf formOf allowedOf served dnloadOf commandOf wellFormed faultOf movedTo
+    unfolding fitOf streamLength freshOf wholeUpload appEnd dataAsked setupOf formOf allowedOf served dnloadOf commandOf wellFormed faultOf movedTo
     after-seven = next-from _ _ _ (serves (held 2 0 2 0 0 sums) f (seven buffer) refl sized refl refl refl refl refl)
 
     after-poll : (g : List ℕ) → length g ≡ startOf 64 → next stepOf (site (held 3 0 2 0 0 sums) g) (getStatus buffer) ≡ site (held 2 0 2 0 0 sums) g
-    unfolding fitOf streamLength appEnd dataAsked setupOf formOf allowedOf served getstatusOf answered polled entered pollTime
+    unfolding fitOf streamLength freshOf wholeUpload appEnd dataAsked setupOf formOf allowedOf served getstatusOf answered polled entered pollTime
     after-poll g long = next-from _ _ _ (serves (held 3 0 2 0 0 sums) g (getStatus buffer) refl long refl refl refl refl refl)
 
     -- a PROG of one byte that brings none, and one that brings a zero
@@ -107,7 +101,7 @@ module _ (p q : ℕ) (f buffer : List ℕ) (sized : length f ≡ startOf 64) (ro
     one-sums = sumsAfter (boardOf 16 64 p q) sums w (startOf 16) 0
 
     after-one : next stepOf (site (held 2 0 2 0 0 sums) w) (progOne buffer) ≡ site (held 3 0 5 16384 1 one-sums) w
-    unfolding one-sums fitOf streamLength appEnd dataAsked setupOf formOf allowedOf served dnloadOf commandOf wellFormed carriedOut progOf wroteOf movedTo
+    unfolding one-sums fitOf streamLength freshOf wholeUpload appEnd dataAsked setupOf formOf allowedOf served dnloadOf commandOf wellFormed carriedOut progOf wroteOf movedTo
     after-one =
         next-from _ _ (leaves (outcome Answer.Taken 0 (held 3 0 5 16384 1 one-sums)) w buffer)
         (serves (held 2 0 2 0 0 sums) w (progOne buffer) refl w-long refl refl refl refl refl
@@ -117,26 +111,26 @@ module _ (p q : ℕ) (f buffer : List ℕ) (sized : length f ≡ startOf 64) (ro
     zero-sums = sumsAfter (boardOf 16 64 p q) sums z (startOf 16) 1
 
     after-zero : next stepOf (site (held 2 0 2 0 0 sums) w) (progZero buffer) ≡ site (held 3 0 5 16385 0 zero-sums) z
-    unfolding zero-sums fitOf streamLength appEnd dataAsked setupOf formOf allowedOf served dnloadOf commandOf wellFormed carriedOut progOf wroteOf movedTo
+    unfolding zero-sums fitOf streamLength freshOf wholeUpload appEnd dataAsked setupOf formOf allowedOf served dnloadOf commandOf wellFormed carriedOut progOf wroteOf movedTo
     after-zero =
         next-from _ _ (leaves (outcome Answer.Taken 0 (held 3 0 5 16385 0 zero-sums)) z buffer)
         (serves (held 2 0 2 0 0 sums) w (progZero buffer) refl w-long refl refl refl refl refl
         ∙ rw (w-erased 16 1 (omega arith) (omega arith)))
 
     one-polled : next stepOf (site (held 3 0 5 16384 1 sums) w) (getStatus buffer) ≡ site (held 5 0 2 16384 1 sums) w
-    unfolding fitOf streamLength appEnd dataAsked setupOf formOf allowedOf served getstatusOf answered polled entered pollTime
+    unfolding fitOf streamLength freshOf wholeUpload appEnd dataAsked setupOf formOf allowedOf served getstatusOf answered polled entered pollTime
     one-polled = next-from _ _ _ (serves (held 3 0 5 16384 1 sums) w (getStatus buffer) refl w-long refl refl refl refl refl)
 
     zero-polled : next stepOf (site (held 3 0 5 16385 0 sums) z) (getStatus buffer) ≡ site (held 5 0 2 16385 0 sums) z
-    unfolding fitOf streamLength appEnd dataAsked setupOf formOf allowedOf served getstatusOf answered polled entered pollTime
+    unfolding fitOf streamLength freshOf wholeUpload appEnd dataAsked setupOf formOf allowedOf served getstatusOf answered polled entered pollTime
     zero-polled = next-from _ _ _ (serves (held 3 0 5 16385 0 sums) z (getStatus buffer) refl z-long refl refl refl refl refl)
 
     zero-closed : next stepOf (site (held 5 0 2 16385 0 sums) z) (close buffer) ≡ site (held 6 0 2 0 0 sums) z
-    unfolding fitOf streamLength appEnd dataAsked setupOf formOf allowedOf served dnloadOf pieceOf closedOf movedTo
+    unfolding fitOf streamLength freshOf wholeUpload appEnd dataAsked setupOf formOf allowedOf served dnloadOf pieceOf closedOf movedTo
     zero-closed = next-from _ _ _ (serves (held 5 0 2 16385 0 sums) z (close buffer) refl z-long refl refl refl refl refl)
 
     closed-polled : next stepOf (site (held 6 0 2 0 0 sums) z) (getStatus buffer) ≡ site (held 2 0 2 0 0 sums) z
-    unfolding fitOf streamLength appEnd dataAsked setupOf formOf allowedOf served getstatusOf answered polled entered pollTime
+    unfolding fitOf streamLength freshOf wholeUpload appEnd dataAsked setupOf formOf allowedOf served getstatusOf answered polled entered pollTime
     closed-polled = next-from _ _ _ (serves (held 6 0 2 0 0 sums) z (getStatus buffer) refl z-long refl refl refl refl refl)
 
   -- where the examples stand: fresh, fresh with all erased, a download of one byte open, one closed, and in error
@@ -195,56 +189,25 @@ module _ (p q : ℕ) (f buffer : List ℕ) (sized : length f ≡ startOf 64) (ro
 
   -- all that each asks and expects is computed where it stands
   desk : All (Expected stepOf) (deskCases startOutcome p q f buffer)
-  unfolding fitOf streamLength appEnd dataAsked setupOf formOf allowedOf served stallOf faultOf movedTo answered getstateOf queryOf getstatusOf polled entered pollTime dnloadOf commandOf wellFormed carriedOut eraseOf progOf wroteOf pieceOf closedOf
-  desk = (
-    example 0 _ _ at-start (serves _ f _ refl sized refl refl refl refl refl) refl refl refl refl refl refl,
-    (
-      example 1 _ _ at-start (serves _ f _ refl sized refl refl refl refl refl) refl refl refl refl refl refl,
-      (
-        example 2 _ _ at-start (serves _ f _ refl sized refl refl refl refl refl) refl refl refl refl refl refl,
-        (
-          example 3 _ _ at-start (serves _ f _ refl sized refl refl refl refl refl) refl refl refl refl refl refl,
-          (
-            example 4 _ _ at-start (serves _ f _ refl sized refl refl refl refl refl) refl refl refl refl refl refl,
-            (
-              example 5 _ (leaves (outcome Answer.Taken 0 (held 3 0 5 64512 1024 (sumsAfter (boardOf 16 64 p q) sums1 w (startOf 63) 0))) w buffer) at-erased (serves _ w _ refl w-long refl refl refl refl refl ∙ rw (w-erased 63 1024 (omega arith) (omega arith), spliced-none w (startOf 63))) refl refl refl refl refl refl,
-              (
-                example 6 _ _ at-erased (serves _ w _ refl w-long refl refl refl refl refl) refl refl refl refl refl refl,
-                (
-                  example 7 _ _ at-start (serves _ f _ refl sized refl refl refl refl refl) refl refl refl refl refl refl,
-                  (
-                    example 8 _ _ at-start (serves _ f _ refl sized refl refl refl refl refl) refl refl refl refl refl refl,
-                    (
-                      example 9 _ _ at-start (serves _ f _ refl sized refl refl refl refl refl) refl refl refl refl refl refl,
-                      (
-                        example 10 _ _ at-error (serves _ f _ refl sized refl refl refl refl refl) refl refl refl refl refl refl,
-                        (
-                          example 11 _ _ at-start (stalls _ f _ refl sized refl refl refl refl refl) refl refl refl refl refl refl,
-                          (
-                            example 12 _ _ at-one (serves _ w _ refl w-long refl refl refl refl refl) refl refl refl refl refl refl,
-                            (
-                              example 13 _ (leaves (outcome Answer.Faulted 0 (held 10 0x05 2 0 0 (zero-sums sums1))) z buffer) at-zero (serves _ z _ refl z-long refl refl refl refl refl ∙ rw z-unerased) refl refl refl refl refl refl,
-                              (
-                                example 14 _ _ at-error (serves _ f _ refl sized refl refl refl refl refl) refl refl refl refl refl refl,
-                                (
-                                  example 15 _ _ at-start (stalls _ f _ refl sized refl refl refl refl refl) refl refl refl refl refl refl,
-                                  tt,
-                                ),
-                              ),
-                            ),
-                          ),
-                        ),
-                      ),
-                    ),
-                  ),
-                ),
-              ),
-            ),
-          ),
-        ),
-      ),
-    ),
-  )
+  unfolding fitOf streamLength freshOf wholeUpload appEnd dataAsked setupOf formOf allowedOf served stallOf faultOf movedTo answered getstateOf queryOf getstatusOf polled entered pollTime dnloadOf commandOf wellFormed carriedOut eraseOf progOf wroteOf pieceOf closedOf
+  desk =
+      example 0 _ _ at-start (serves _ f _ refl sized refl refl refl refl refl) refl refl refl refl refl refl
+      and example 1 _ _ at-start (serves _ f _ refl sized refl refl refl refl refl) refl refl refl refl refl refl
+      and example 2 _ _ at-start (serves _ f _ refl sized refl refl refl refl refl) refl refl refl refl refl refl
+      and example 3 _ _ at-start (serves _ f _ refl sized refl refl refl refl refl) refl refl refl refl refl refl
+      and example 4 _ _ at-start (serves _ f _ refl sized refl refl refl refl refl) refl refl refl refl refl refl
+      and example 5 _ (leaves (outcome Answer.Taken 0 (held 3 0 5 64512 1024 (sumsAfter (boardOf 16 64 p q) sums1 w (startOf 63) 0))) w buffer) at-erased (serves _ w _ refl w-long refl refl refl refl refl ∙ rw (w-erased 63 1024 (omega arith) (omega arith), spliced-none w (startOf 63))) refl refl refl refl refl refl
+      and example 6 _ _ at-erased (serves _ w _ refl w-long refl refl refl refl refl) refl refl refl refl refl refl
+      and example 7 _ _ at-start (serves _ f _ refl sized refl refl refl refl refl) refl refl refl refl refl refl
+      and example 8 _ _ at-start (serves _ f _ refl sized refl refl refl refl refl) refl refl refl refl refl refl
+      and example 9 _ _ at-start (serves _ f _ refl sized refl refl refl refl refl) refl refl refl refl refl refl
+      and example 10 _ _ at-error (serves _ f _ refl sized refl refl refl refl refl) refl refl refl refl refl refl
+      and example 11 _ _ at-start (stalls _ f _ refl sized refl refl refl refl refl) refl refl refl refl refl refl
+      and example 12 _ _ at-one (serves _ w _ refl w-long refl refl refl refl refl) refl refl refl refl refl refl
+      and example 13 _ (leaves (outcome Answer.Faulted 0 (held 10 0x05 2 0 0 (zero-sums sums1))) z buffer) at-zero (serves _ z _ refl z-long refl refl refl refl refl ∙ rw z-unerased) refl refl refl refl refl refl
+      and example 14 _ _ at-error (serves _ f _ refl sized refl refl refl refl refl) refl refl refl refl refl refl
+      and example 15 _ _ at-start (stalls _ f _ refl sized refl refl refl refl refl) refl refl refl refl refl refl
+      and none
 
 pub Desk-holds : Desk startOutcome stepOf
 Desk-holds = desk

@@ -45,10 +45,11 @@ abbrev pub Expected : Step → Case → Type 0
 Expected step c = Meets (called step (after step (c .at) (c .before)) (c .call)) c
 
 -- something holds of all of a list
-abbrev pub All : (Case → Type 0) → List Case → Type 0
-All P [] = Unit
-All P (c ∷ cs) = P c × All P cs
+pub data All (P : Case → Type 0) : List Case → Type 0 where
+  none : All P []
+  _and_ : {c : Case} {cs : List Case} → P c → All P cs → All P (c ∷ cs)
 
+infixr 20 _and_
 -- the calls of the examples, each with the reply buffer that it is lent
 module _ (buffer : List ℕ) where
   -- a request that brings no data
