@@ -28,3 +28,4 @@ pub mod ReadBackUploads
 pub mod ReadBackDownloads
 pub mod ReadBack
 pub mod ThreeMet
+pub mod Demands

@@ -8,6 +8,9 @@ use borrow.Author.Tests.{eq-eqb, ne-eqb}
 use lib.ListN.{length}
 use Rattle.flash.specs.Flash.{startOf}
 use Rattle.session.specs.Session.{appEnd, phaseOf, downOf, upOf, wholeUpload, freshOf}
+use Rattle.session.specs.declared.Phase.{Phase}
+use Rattle.session.specs.declared.Download.{Download}
+use Rattle.session.specs.declared.Upload.{Upload}
 use Rattle.session.specs.declared.Session.{Session}
 use Rattle.request.specs.Request.{wLength, requestOf, allowedOf}
 use Rattle.request.specs.declared.Request.{Request}
@@ -25,41 +28,37 @@ use Rattle.demands.proofs.Ways.{pick, every-way}
 use Rattle.demands.proofs.Asked.{prepared-ready, ready-prepared}
 use Rattle.demands.proofs.TwoForms.{request-form, no-request, asks-stalled}
 
--- what a move to state 10 leaves, and what a RESET does
+-- a session with these groups is settled
 settled :
-    (s : Session) (state status choice flag first len : ℕ)
-    → Settled s
-    (record {
-      board = s .board;
-      phase = phaseOf state status 2;
-      down = downOf 0 0;
-      up = upOf choice flag first len 0;
-      sums = s .sums;
-    })
-    state status choice flag first len
-settled s state status choice flag first len =
+    (s t : Session) (state status choice flag first len : ℕ) → t .board ≡ s .board → t .phase ≡ phaseOf state status 2
+    → t .down ≡ downOf 0 0 → t .up ≡ upOf choice flag first len 0 → t .sums ≡ s .sums
+    → Settled s t state status choice flag first len
+settled s t state status choice flag first len board phase down up sums =
     record {
-      board = refl;
-      in-state = refl;
-      told = refl;
-      after-sync = refl;
-      down-place = refl;
-      down-left = refl;
-      chosen = refl;
-      prefix-flag = refl;
-      range-first = refl;
-      range-length = refl;
-      up-place = refl;
-      sums = refl;
+      board = board;
+      in-state = ap (λ (p : Phase). p .state .0) phase;
+      told = ap (λ (p : Phase). p .status .0) phase;
+      after-sync = ap (λ (p : Phase). p .after .0) phase;
+      down-place = ap (λ (d : Download). d .place .0) down;
+      down-left = ap (λ (d : Download). d .left) down;
+      chosen = ap (λ (u : Upload). u .choice) up;
+      prefix-flag = ap (λ (u : Upload). u .«prefix») up;
+      range-first = ap (λ (u : Upload). u .first .0) up;
+      range-length = ap (λ (u : Upload). u .len) up;
+      up-place = ap (λ (u : Upload). u .place) up;
+      sums = sums;
     }
 
+-- what a move to state 10 leaves, and what a RESET does
 errored : (s : Session) (status : ℕ) → InError s (toError s status) status
 unfolding movedTo
-errored s status = settled s 10 status (s .up .choice) (s .up .«prefix») (s .up .first .0) (s .up .len)
+errored s status =
+    settled s (toError s status) 10 status (s .up .choice) (s .up .«prefix») (s .up .first .0) (s .up .len) refl refl refl refl refl
 
 freshened : (s : Session) → AsFresh s (resetOf s .session)
 unfolding resetOf freshOf wholeUpload
-freshened s = settled s 2 0 0 1 (s .board .a .0) (startOf (appEnd (s .board) - s .board .a .0))
+freshened s =
+    settled s (resetOf s .session) 2 0 0 1 (s .board .a .0) (startOf (appEnd (s .board) - s .board .a .0)) refl refl refl refl refl
 
 stalled-row :
     (at : Site) (c : Call) → NoRequest at c

@@ -31,7 +31,7 @@ module _ (at : Site) (c : Call) (block len : ℕ) (k : Commanded at c 2 8) (rang
   read-done : Legal at block len → Chooses stepOf at c 0 3 0 (at .session .up .«prefix») block len
   unfolding carriedOut readOf movedTo
   read-done legal =
-      so-chooses at c Answer.Taken 3 0 (at .session .up .«prefix») block len _ refl
+      so-chooses at c Answer.Taken 3 0 (at .session .up .«prefix») block len _ refl refl refl refl refl
       (command-leaves at c 2 8 k (omega arith) (omega arith) (omega arith) (inr refl)
       ∙ rw (range .block-is, range .len-is, legal-in at block len legal))
 
@@ -85,25 +85,25 @@ module _ (at : Site) (c : Call) where
   info-done : Commanded at c 5 8 → Chooses stepOf at c 0 3 1 (at .session .up .«prefix») (at .session .up .first .0) (at .session .up .len)
   unfolding carriedOut infoOf movedTo
   info-done k =
-      so-chooses at c Answer.Taken 3 1 (at .session .up .«prefix») (at .session .up .first .0) (at .session .up .len) _ refl
+      so-chooses at c Answer.Taken 3 1 (at .session .up .«prefix») (at .session .up .first .0) (at .session .up .len) _ refl refl refl refl refl
       (command-leaves at c 5 8 k (omega arith) (omega arith) (omega arith) (inr refl))
 
   bin-off : Commanded at c 6 8 → (getD (c .bytes) 1 0 ≡ 0 → ⊥) → Chooses stepOf at c 0 3 (at .session .up .choice) 0 (at .session .up .first .0) (at .session .up .len)
   unfolding carriedOut binOf prefixFor movedTo
   bin-off k ne =
-      so-chooses at c Answer.Taken 3 (at .session .up .choice) 0 (at .session .up .first .0) (at .session .up .len) _ refl
+      so-chooses at c Answer.Taken 3 (at .session .up .choice) 0 (at .session .up .first .0) (at .session .up .len) _ refl refl refl refl refl
       (command-leaves at c 6 8 k (omega arith) (omega arith) (omega arith) (inr refl) ∙ rw (ne-eqb (getD (c .bytes) 1 0) 0 ne))
 
   bin-on : Commanded at c 6 8 → getD (c .bytes) 1 0 ≡ 0 → Chooses stepOf at c 0 3 (at .session .up .choice) 1 (at .session .up .first .0) (at .session .up .len)
   unfolding carriedOut binOf prefixFor movedTo
   bin-on k e =
-      so-chooses at c Answer.Taken 3 (at .session .up .choice) 1 (at .session .up .first .0) (at .session .up .len) _ refl
+      so-chooses at c Answer.Taken 3 (at .session .up .choice) 1 (at .session .up .first .0) (at .session .up .len) _ refl refl refl refl refl
       (command-leaves at c 6 8 k (omega arith) (omega arith) (omega arith) (inr refl) ∙ rw (eq-eqb (getD (c .bytes) 1 0) 0 e))
 
   reset-done : Commanded at c 7 8 → Chooses stepOf at c 4 2 0 1 (at .session .board .a .0) ((appEnd (at .session .board) - at .session .board .a .0) * 1024)
   unfolding carriedOut resetOf freshOf wholeUpload
   reset-done k =
-      so-chooses at c Answer.ResetAsked 2 0 1 (at .session .board .a .0) ((appEnd (at .session .board) - at .session .board .a .0) * 1024) _ refl
+      so-chooses at c Answer.ResetAsked 2 0 1 (at .session .board .a .0) ((appEnd (at .session .board) - at .session .board .a .0) * 1024) _ refl refl refl refl refl
       (command-leaves at c 7 8 k (omega arith) (omega arith) (omega arith) (inr refl))
 
   no-command : (code n : ℕ) → Commanded at c code n → NoCommand code n → Moves stepOf at c 3 [] 10 0x0B

@@ -4,6 +4,7 @@ use mathlib.Core.List.{List, [], _++_}
 use mathlib.Core.Path.{_≡_, refl, sym, ap, _∙_}
 use lib.ListN.{length, drop}
 use Rattle.session.specs.Session.{phaseOf, noDownload, upOf}
+use Rattle.session.specs.declared.Phase.{Phase}
 use Rattle.session.specs.declared.Session.{Session}
 use Rattle.moves.specs.declared.Answer.{Answer}
 use Rattle.moves.specs.Answers.{Leaves, answerNumber, outcome, leaves}
@@ -70,32 +71,27 @@ module _ (at : Site) (c : Call) (a : Answer) (bytes : List ℕ) where
         flash = so-flash at c a bytes t (at .flash) e;
       }
 
--- a call that chooses what an upload reads
+-- a call that chooses what an upload reads, from the groups of the session that it hands back
 pub so-chooses :
-    (at : Site) (c : Call) (a : Answer) (n choice flag first len : ℕ) (t : Session)
-    → t
-    ≡ record {
-      board = at .session .board;
-      phase = phaseOf n 0 2;
-      down = noDownload;
-      up = upOf choice flag first len 0;
-      sums = at .session .sums;
-    }
-    → called stepOf at c ≡ leaves (outcome a 0 t) (at .flash) (c .reply) → Chooses stepOf at c (answerNumber a) n choice flag first len
-so-chooses at c a n choice flag first len t is e =
-    let session = so-session at c a [] t (at .flash) e ∙ is in
+    (at : Site) (c : Call) (a : Answer) (n choice flag first len : ℕ) (t : Session) → t .board ≡ at .session .board
+    → t .phase ≡ phaseOf n 0 2 → t .down ≡ noDownload → t .up ≡ upOf choice flag first len 0 → t .sums ≡ at .session .sums
+    → called stepOf at c ≡ leaves (outcome a 0 t) (at .flash) (c .reply)
+    → Chooses stepOf at c (answerNumber a) n choice flag first len
+so-chooses at c a n choice flag first len t board phase down up sums e =
+    let session = so-session at c a [] t (at .flash) e in
+    let phases = ap (λ (x : Session). x .phase) session ∙ phase in
     record {
       answers = so-answers at c a [] t (at .flash) e;
       enters =
           record {
-            state = ap (λ (x : Session). x .phase .state .0) session;
-            says = ap (λ (x : Session). x .phase .status .0) session;
-            leads = ap (λ (x : Session). x .phase .after .0) session;
-            board = ap (λ (x : Session). x .board) session;
+            state = ap (λ (x : Phase). x .state .0) phases;
+            says = ap (λ (x : Phase). x .status .0) phases;
+            leads = ap (λ (x : Phase). x .after .0) phases;
+            board = ap (λ (x : Session). x .board) session ∙ board;
           };
-      no-download = ap (λ (x : Session). x .down) session;
-      upload = ap (λ (x : Session). x .up) session;
-      sums = ap (λ (x : Session). x .sums) session;
+      no-download = ap (λ (x : Session). x .down) session ∙ down;
+      upload = ap (λ (x : Session). x .up) session ∙ up;
+      sums = ap (λ (x : Session). x .sums) session ∙ sums;
       flash = so-flash at c a [] t (at .flash) e;
     }
 
