@@ -1,4 +1,5 @@
 -- What the user is promised: the proofs.
+pub mod Small
 pub mod Ways
 pub mod Asked
 pub mod OneOutside

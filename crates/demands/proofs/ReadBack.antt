@@ -24,6 +24,7 @@ use Rattle.demands.specs.Calls.{Site}
 use Rattle.demands.specs.ReadBack.{Host, ends, asks, Ran, run, dnload, poll, abort, readCommand, eraseCommand}
 use Rattle.demands.specs.ReadBack.{progCommand, joined, gathers, answersOf, reads, clears, sends}
 use Rattle.demands.specs.ReadBack.{hasRead, hasCleared, hasSent, MayReadBack, ReadsBack, ReadBack}
+use Rattle.demands.proofs.Small.{smallBoard, smallFlash, small-long, smallSession, roomy}
 use Rattle.demands.proofs.TwoDownloads.{legal-in}
 use Rattle.demands.proofs.ReadBackCalls.{siteOf, on-taken, abort-called}
 use Rattle.demands.proofs.ReadBackSessions.{inState, image, image-length, atIdle, atCommand, atUpload, command-fit, upload-fit}
@@ -168,15 +169,15 @@ module _ (at : Site) (lent : List ℕ) (block len : ℕ) (m : MayReadBack at len
 pub ReadBack-holds : ReadBack stepOf
 ReadBack-holds = reads-back
 
--- the premises can be met: A = 1, B = 4, an erased flash at a fresh start, and a range that ends inside its second block
-pub ReadBack-met : MayReadBack (siteOf (freshStart (blank 4096) (boardOf 1 4 0 0)) (blank 4096)) (blank 1024) 1 2000
-unfolding freshStart freshOf wholeUpload appEnd
+-- the premises can be met: the small board at a fresh start, and a range that ends inside its second block
+pub ReadBack-met : MayReadBack (siteOf smallSession smallFlash) (blank 1024) 1 2000
+unfolding freshOf wholeUpload appEnd
 ReadBack-met =
     record {
-      fit = fit-facts _ (fresh-fit (boardOf 1 4 0 0) (freshSums (blank 4096) 1 4) refl);
+      fit = fit-facts _ (fresh-fit smallBoard (freshSums smallFlash 1 3) refl);
       in-idle = refl;
       prefixed = refl;
-      sized = length-blank 4096;
-      roomy = omega (arith, length-blank 1024);
+      sized = small-long;
+      roomy = roomy;
       legal = record { some = omega arith; from = omega arith; to = omega arith };
     }
