@@ -13,7 +13,8 @@ use lib.ListN.{length, getD, drop}
 use Rattle.flash.specs.Flash.{startOf}
 use Rattle.sums.specs.Sum.{mostBlocks, freshSums}
 use Rattle.session.specs.Codes.{idle, downloadSync, downloadIdle, manifestSync, uploadIdle, error, ok, stalled}
-use Rattle.session.specs.Session.{appEnd, phaseOf, downOf, noDownload, upOf, flashStream, infoBytes, boardOf, withPhase, withUp, withSums, streamLength, zerosOf}
+use Rattle.session.specs.Session.{appEnd, phaseOf, downOf, noDownload, upOf, flashStream, infoBytes}
+use Rattle.session.specs.Session.{boardOf, withPhase, withUp, withSums, streamLength, zerosOf}
 use Rattle.session.specs.Rules.{splitRule, stateRule, statusRule, running, downloadRule, uploadRule, afterRule, inApplication}
 use Rattle.session.specs.Rules.{rangeRule, placeRule, flagsRule, fitOf}
 use Rattle.session.specs.declared.Phase.{Phase}
@@ -35,8 +36,9 @@ use Rattle.loader.specs.Reply.{entered, polled, getstatusOf, getstateOf, queryO
 use Rattle.loader.specs.Upload.{placeOf, answerOf, uploadEnds, uploadingAt, uploadedOf, uploadOf}
 use Rattle.loader.specs.Step.{startable, freshStart, startOutcome, stepOf}
 use Rattle.loader.proofs.Laws.{place-in-stream, start-split, start-sized}
-use Rattle.demands.specs.Calls.{heard, Call, Site, called, next}
-use Rattle.demands.specs.One.{StaysFit, AllowedStart, StartsFit, RefusedStart, FaultStatus, not-erased, out-of-range, bytes-missing, bad-command}
+use Rattle.demands.specs.Calls.{sessionOf, heard, Call, Site, called, next}
+use Rattle.demands.specs.One.{StaysFit, AllowedStart, StartsFit, RefusedStart, FaultStatus}
+use Rattle.demands.specs.One.{not-erased, out-of-range, bytes-missing, bad-command}
 use Rattle.demands.proofs.Ways.{pick, every-way}
 use Rattle.demands.proofs.OneOutside.{piece-place}
 use Rattle.demands.proofs.OneRefused.{refused-holds, unfit-exactly-holds}
@@ -275,7 +277,7 @@ tests-stay at c e =
     let f = at .flash in
     let d = c .bytes in
     let k = fit-kept s e in
-    every-way s f (c .setup) d (c .reply) (λ (l : Leaves). fitOf (l .outcome .session) ≡ true)
+    every-way s f (c .setup) d (c .reply) (λ (l : Leaves). fitOf (sessionOf l) ≡ true)
     (record {
       unfits = λ _. e;
       stalls = λ _ _. stall-fit s e;

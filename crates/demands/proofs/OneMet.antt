@@ -150,7 +150,8 @@ abort-prepared =
       rules = stays-fit-holds small clrstatus stays-fit-met;
     }
 
-pub in-ten-met : (next stepOf small clrstatus .session .phase .state .0 ≡ 10) × (heard (called stepOf (next stepOf small clrstatus) abort) ≡ 1)
+pub in-ten-met :
+    (next stepOf small clrstatus .session .phase .state .0 ≡ 10) × (heard (called stepOf (next stepOf small clrstatus) abort) ≡ 1)
 unfolding formOf setupOf allowedOf stallOf
 in-ten-met =
     let e = stalled-once .in-state in

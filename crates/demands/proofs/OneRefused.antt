@@ -161,7 +161,9 @@ unfit-rows at c =
     }
 
 -- a call that the first test refuses
-unready : (at : Site) (c : Call) → ready (at .session) (length (at .flash)) (c .setup) (length (c .bytes)) (length (c .reply)) ≡ false → called stepOf at c ≡ leaves (unfitOf (at .session)) (at .flash) (c .reply)
+unready :
+    (at : Site) (c : Call) → ready (at .session) (length (at .flash)) (c .setup) (length (c .bytes)) (length (c .reply)) ≡ false
+    → called stepOf at c ≡ leaves (unfitOf (at .session)) (at .flash) (c .reply)
 unfolding called stepOf
 unready at c e = rw e
 

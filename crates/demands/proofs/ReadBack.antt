@@ -88,7 +88,8 @@ module _ (at : Site) (lent : List ℕ) (block len : ℕ) (m : MayReadBack at len
   in-flash : startOf block + len ≤ length (at .flash)
   in-flash = let inside = inside-facts board block len legal in omega (arith, m .sized, end-in-flash board)
 
-  read-all : Gathered (at .session) block len sums (at .flash) lent (hasRead stepOf at lent block len) [] (image board block len (at .flash))
+  read-all :
+      Gathered (at .session) block len sums (at .flash) lent (hasRead stepOf at lent block len) [] (image board block len (at .flash))
   read-all =
       let whole = image-length board block len (at .flash) in-flash in
       subst (λ (r : Ran (List (List ℕ))). Gathered (at .session) block len sums (at .flash) lent r [] (image board block len (at .flash)))
@@ -142,7 +143,8 @@ module _ (at : Site) (lent : List ℕ) (block len : ℕ) (m : MayReadBack at len
       let bytes = range (at .flash) (startOf block) len in
       subst (λ (r : Ran Unit). Filled r cleared-flash (startOf block) bytes)
       (sym (ap₂ (λ (x : Ran Unit) (ps : List (List ℕ)). run stepOf (x .site) (sends lent ps)) clears-on (read-all .joins)))
-      (all-sent (at .session) block len lent split legal (m .roomy) cleared-flash cleared-sums cleared-sized cleared-blank bytes (read-all .pieces)
+      (all-sent (at .session) block len lent split legal (m .roomy) cleared-flash cleared-sums cleared-sized cleared-blank bytes
+      (read-all .pieces)
       (length-range (at .flash) (startOf block) len in-flash))
 
   reads-back : ReadsBack stepOf at lent block len

@@ -132,7 +132,9 @@ module _
   header = headerOf (upOf flashStream 1 block len 0)
 
   -- PROG, with its first data behind the header
-  module _ (g : List ℕ) (sums : Sums) (sized : length g ≡ startOf (base .board .b .0)) (all-blank : range g (startOf block) len ≡ blank len) where
+  module _
+      (g : List ℕ) (sums : Sums) (sized : length g ≡ startOf (base .board .b .0))
+      (all-blank : range g (startOf block) len ≡ blank len) where
     waiting : Site
     waiting = siteOf (inState base block len atIdle noDownload 0 sums) g
 
@@ -140,7 +142,9 @@ module _
         (x : List ℕ) → 8 + length x ≤ 1024 → length x ≤ len
         → called stepOf waiting (dnload lent (header ++ x))
         ≡ leaves
-        (takenOf (loaded (startOf block + length x) (len - length x) (sumsAfter (base .board) sums (spliced g (startOf block) x) (startOf block) (length x))))
+        (takenOf
+        (loaded (startOf block + length x) (len - length x)
+        (sumsAfter (base .board) sums (spliced g (startOf block) x) (startOf block) (length x))))
         (spliced g (startOf block) x)
         lent
     unfolding waiting loaded headerOf wellFormed carriedOut progOf wroteOf allErased movedTo

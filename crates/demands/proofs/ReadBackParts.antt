@@ -91,10 +91,13 @@ module _ (board : Board) (block len : ℕ) (sums : Sums) (f : List ℕ) where
 
 module _
     (base : Session) (block len : ℕ) (sums : Sums) (f lent : List ℕ) (split : splitRule (base .board) ≡ true)
-    (legal : inApplication (base .board) block len ≡ true) (sized : length f ≡ startOf (base .board .b .0)) (room : 1024 ≤ length lent) where
+    (legal : inApplication (base .board) block len ≡ true) (sized : length f ≡ startOf (base .board .b .0))
+    (room : 1024 ≤ length lent) where
   pub erase-called :
       called stepOf (siteOf (inState base block len atIdle noDownload 0 sums) f) (dnload lent (eraseCommand block (nextStart len)))
-      ≡ leaves (takenOf (inState base block len atCommand noDownload 0 (wiped-sums (base .board) block len sums f))) (erased f block (nextStart len)) lent
+      ≡ leaves (takenOf (inState base block len atCommand noDownload 0 (wiped-sums (base .board) block len sums f)))
+      (erased f block (nextStart len))
+      lent
   unfolding eraseCommand wellFormed carriedOut eraseOf movedTo
   erase-called =
       let s = inState base block len atIdle noDownload 0 sums in

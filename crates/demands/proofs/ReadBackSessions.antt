@@ -59,7 +59,9 @@ atPiece = phaseOf downloadSync ok downloadIdle
 abbrev pub atDownload : Phase
 atDownload = phaseOf downloadIdle ok idle
 
-module _ (base : Session) (block len : ℕ) (split : splitRule (base .board) ≡ true) (legal : inApplication (base .board) block len ≡ true) (sums : Sums) where
+module _
+    (base : Session) (block len : ℕ) (split : splitRule (base .board) ≡ true) (legal : inApplication (base .board) block len ≡ true)
+    (sums : Sums) where
   -- the rules that the board, the range and the flags don't settle
   state-fit : (phase : Phase) (down : Download) (place : ℕ)
       → stateRule phase ≡ true
@@ -95,7 +97,11 @@ module _ (base : Session) (block len : ℕ) (split : splitRule (base .board) ≡
   upload-fit place h = state-fit atUpload noDownload place refl refl refl refl h refl refl
 
   module _ (at left : ℕ) (from : startOf (base .board .a .0) ≤ at) (to : at + left ≤ startOf (appEnd (base .board))) where
-    placed : (leb (startOf (base .board .a .0)) at && leb at (startOf (appEnd (base .board))) && leb (at + left) (startOf (appEnd (base .board)))) ≡ true
+    placed :
+        (leb (startOf (base .board .a .0)) at
+        && leb at (startOf (appEnd (base .board)))
+        && leb (at + left) (startOf (appEnd (base .board))))
+        ≡ true
     placed = rw (le-leb _ _ from, le-leb at (startOf (appEnd (base .board))) (omega arith), le-leb _ _ to)
 
     pub piece-fit : fitOf (inState base block len atPiece (downOf at left) 0 sums) ≡ true

@@ -28,7 +28,7 @@ use Rattle.command.proofs.Laws.{ready-split, ready-within, ready-place, ready-r
 use Rattle.loader.specs.Reply.{polled, getstatusOf, getstateOf, queryOf, answered}
 use Rattle.loader.specs.Upload.{uploadEnds, uploadingAt, uploadedOf, uploadOf}
 use Rattle.loader.specs.Step.{freshStart, startOutcome, stepOf}
-use Rattle.demands.specs.Calls.{begun, Call, Site, called, next, after}
+use Rattle.demands.specs.Calls.{sessionOf, begun, Call, Site, called, next, after}
 use Rattle.demands.specs.One.{Untouched, AllowedStart}
 use Rattle.demands.specs.Three.{Held, History}
 use Rattle.demands.proofs.Ways.{pick, every-way}
@@ -80,10 +80,11 @@ module _ (s : Session) (f : List ℕ) (r : Ready s f) (right : Summed s f) where
 
 -- no call changes the board
 board-stays : (at : Site) (c : Call) → next stepOf at c .session .board ≡ at .session .board
-unfolding next called wroteOf infoOf binOf movedTo stallOf unfitOf faultOf resetOf freshOf polled getstatusOf getstateOf queryOf answered uploadOf uploadedOf uploadingAt
+unfolding next called wroteOf infoOf binOf movedTo stallOf unfitOf faultOf resetOf freshOf polled getstatusOf getstateOf queryOf
+    answered uploadOf uploadedOf uploadingAt
 board-stays at c =
     let s = at .session in
-    every-way s (at .flash) (c .setup) (c .bytes) (c .reply) (λ (l : Leaves). l .outcome .session .board ≡ s .board)
+    every-way s (at .flash) (c .setup) (c .bytes) (c .reply) (λ (l : Leaves). sessionOf l .board ≡ s .board)
     (record {
       unfits = λ _. refl;
       stalls = λ _ _. pick (λ (t : Session). t .board ≡ s .board) (eqb (s .phase .state .0) 10) _ _ (λ _. refl) (λ _. refl);
@@ -108,14 +109,15 @@ board-stays at c =
 sums-stay :
     (at : Site) (c : Call) → Summed (at .session) (at .flash)
     → Right (next stepOf at c .session .sums) (next stepOf at c .flash) (at .session .board .a .0) (appEnd (at .session .board))
-unfolding next called wroteOf infoOf binOf movedTo stallOf unfitOf faultOf resetOf freshOf polled getstatusOf getstateOf queryOf answered uploadOf uploadedOf uploadingAt
+unfolding next called wroteOf infoOf binOf movedTo stallOf unfitOf faultOf resetOf freshOf polled getstatusOf getstateOf queryOf
+    answered uploadOf uploadedOf uploadingAt
 sums-stay at c right =
     let s = at .session in
     let f = at .flash in
     let d = c .bytes in
     let kept : Session → Type 0 = λ t. Right (t .sums) f (s .board .a .0) (appEnd (s .board)) in
     every-way s f (c .setup) d (c .reply)
-    (λ (l : Leaves). Right (l .outcome .session .sums) (l .flash) (s .board .a .0) (appEnd (s .board)))
+    (λ (l : Leaves). Right (sessionOf l .sums) (l .flash) (s .board .a .0) (appEnd (s .board)))
     (record {
       unfits = λ _. right;
       stalls = λ _ _. pick kept (eqb (s .phase .state .0) 10) _ _ (λ _. right) (λ _. right);
@@ -168,7 +170,9 @@ unfolding after
 held-after f b at [] h = h
 held-after f b at (c ∷ cs) h = held-after f b (next stepOf at c) cs (held-next f b at c h)
 
-pub held-begun : (f : List ℕ) (a b part0 part1 : ℕ) → AllowedStart f a b → Held f (boardOf a b part0 part1) (begun startOutcome f a b part0 part1)
+pub held-begun :
+    (f : List ℕ) (a b part0 part1 : ℕ) → AllowedStart f a b
+    → Held f (boardOf a b part0 part1) (begun startOutcome f a b part0 part1)
 unfolding begun freshStart freshOf
 held-begun f a b part0 part1 h =
     let e = started f a b part0 part1 h in

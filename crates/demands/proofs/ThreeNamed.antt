@@ -28,7 +28,7 @@ use Rattle.command.proofs.Laws.{ready-within, ready-range}
 use Rattle.loader.specs.Reply.{entered, polled, getstatusOf, getstateOf, queryOf, answered}
 use Rattle.loader.specs.Upload.{uploadEnds, uploadingAt, uploadedOf, uploadOf}
 use Rattle.loader.specs.Step.{freshStart, startOutcome, stepOf}
-use Rattle.demands.specs.Calls.{begun, heard, Call, Site, called, next, after}
+use Rattle.demands.specs.Calls.{sessionOf, begun, heard, Call, Site, called, next, after}
 use Rattle.demands.specs.One.{AllowedStart}
 use Rattle.demands.specs.Three.{NamedRange, none, NotNamed, progNames, eraseNames, commandNames, isDnload, tookDnload}
 use Rattle.demands.specs.Three.{ChangesNamed, mayChange, noteOf, notedAfter, OnlyNamed}
@@ -194,7 +194,8 @@ wrote-covers r s f at bytes left low high = record { low = λ _. omega arith; hi
 covers-next :
     (noted : NamedRange) (at : Site) (c : Call) → Covers noted (at .session)
     → Covers (noteOf noted (at .session) c (called stepOf at c)) (next stepOf at c .session)
-unfolding next called wroteOf infoOf binOf movedTo stallOf unfitOf faultOf resetOf freshOf polled getstatusOf getstateOf queryOf answered uploadOf
+unfolding next called wroteOf infoOf binOf movedTo stallOf unfitOf faultOf resetOf freshOf polled getstatusOf getstateOf queryOf
+    answered uploadOf
 covers-next noted at c covers =
     let s = at .session in
     let f = at .flash in
@@ -202,7 +203,7 @@ covers-next noted at c covers =
     let same : (l : Leaves) → tookDnload 2 s c l ≡ false → Covers (noteOf noted s c l) s =
     λ l e. covers-as _ _ _ (notes-same noted s c l e) covers
     in
-    every-way s f (c .setup) d (c .reply) (λ (l : Leaves). Covers (noteOf noted s c l) (l .outcome .session))
+    every-way s f (c .setup) d (c .reply) (λ (l : Leaves). Covers (noteOf noted s c l) (sessionOf l))
     (record {
       unfits = λ _. same _ (untaken noted s c _ (λ (h : _≡_ {A = ℕ} 2 0). omega arith));
       stalls = λ _ _. stopped _ _ (stall-stops s);
@@ -245,7 +246,8 @@ covers-after noted at [] h = h
 covers-after noted at (c ∷ cs) h = covers-after _ (next stepOf at c) cs (covers-next noted at c h)
 
 -- a start runs no download
-start-stops : (f : List ℕ) (a b part0 part1 : ℕ) → AllowedStart f a b → running (begun startOutcome f a b part0 part1 .session .phase) ≡ false
+start-stops :
+    (f : List ℕ) (a b part0 part1 : ℕ) → AllowedStart f a b → running (begun startOutcome f a b part0 part1 .session .phase) ≡ false
 unfolding begun freshStart freshOf
 start-stops f a b part0 part1 h = ap (λ (o : Outcome). running (o .session .phase)) (started f a b part0 part1 h)
 

@@ -18,13 +18,15 @@ use Rattle.request.specs.Request.{setupOf, formOf, requestOf, wLength, dataAske
 use Rattle.moves.specs.declared.Answer.{Answer}
 use Rattle.moves.specs.Answers.{Leaves, outcome, leaves, answerNumber}
 use Rattle.moves.specs.Moves.{movedTo, stallOf, faultOf}
-use Rattle.command.specs.Download.{allErased, sumsAfter, wroteOf, progOf, eraseOf, wellFormed, carriedOut, commandOf, closedOf, pieceOf, dnloadOf}
+use Rattle.command.specs.Download.{allErased, sumsAfter, wroteOf, progOf, eraseOf, wellFormed}
+use Rattle.command.specs.Download.{carriedOut, commandOf, closedOf, pieceOf, dnloadOf}
 use Rattle.loader.specs.Reply.{answered, entered, polled, pollTime, getstatusOf, getstateOf, queryOf}
 use Rattle.loader.specs.Step.{startable, freshStart, startOutcome, served, stepOf}
-use Rattle.demands.specs.Calls.{Call, Site, begun, called, next, after}
+use Rattle.demands.specs.Calls.{heard, countOf, sessionOf, Call, Site, begun, called, next, after}
 use Rattle.demands.specs.Asked.{Prepared}
 use Rattle.demands.proofs.Asked.{prepared-from}
-use Rattle.demands.specs.Tied.{Case, Meets, Expected, All, none, _and_, Desk, freshSite, getStatus, eraseAll, wiped, marred, progOne, progZero, seven, close, case, deskCases}
+use Rattle.demands.specs.Tied.{Case, Meets, Expected, All, none, _and_, Desk, freshSite, getStatus}
+use Rattle.demands.specs.Tied.{eraseAll, wiped, marred, progOne, progZero, seven, close, case, deskCases}
 use Rattle.demands.proofs.Bytes.{erased-length, erased-part, not-erased, spliced-none, spliced-byte}
 use Rattle.demands.proofs.TwoLaws.{sound-served, sound-stalled, next-from}
 
@@ -51,14 +53,20 @@ module _ (p q : ℕ) (f buffer : List ℕ) (sized : length f ≡ startOf 64) (ro
   begins = rw (eq-eqb _ _ sized)
 
   -- a call at such a session, which is sound where its own numbers are
-  module _ (s : Session) (g : List ℕ) (c : Call) (b : s .board .b .0 ≡ 64) (long : length g ≡ startOf 64) (lent : c .reply ≡ buffer) (eight : length (c .setup) ≡ 8) (brought : length (c .bytes) ≡ dataAsked (c .setup)) (fit : fitOf s ≡ true) where
+  module _
+      (s : Session) (g : List ℕ) (c : Call) (b : s .board .b .0 ≡ 64) (long : length g ≡ startOf 64) (lent : c .reply ≡ buffer)
+      (eight : length (c .setup) ≡ 8) (brought : length (c .bytes) ≡ dataAsked (c .setup)) (fit : fitOf s ≡ true) where
     sound : Prepared (site s g) c
     sound = prepared-from (site s g) c eight (rw lent room) (rw b long) brought fit
 
-    serves : allowedOf (requestOf (c .setup)) (wLength (c .setup)) (s .phase .state .0) ≡ true → called stepOf (site s g) c ≡ served (requestOf (c .setup)) s g (wLength (c .setup)) (c .bytes) (c .reply)
+    serves :
+        allowedOf (requestOf (c .setup)) (wLength (c .setup)) (s .phase .state .0) ≡ true → called stepOf (site s g) c
+        ≡ served (requestOf (c .setup)) s g (wLength (c .setup)) (c .bytes) (c .reply)
     serves = sound-served (site s g) c sound
 
-    stalls : allowedOf (requestOf (c .setup)) (wLength (c .setup)) (s .phase .state .0) ≡ false → called stepOf (site s g) c ≡ leaves (stallOf s) g (c .reply)
+    stalls :
+        allowedOf (requestOf (c .setup)) (wLength (c .setup)) (s .phase .state .0) ≡ false → called stepOf (site s g) c
+        ≡ leaves (stallOf s) g (c .reply)
     stalls = sound-stalled (site s g) c sound
 
   -- the flash after an erase of the application, and with a zero byte at its start
@@ -85,15 +93,20 @@ module _ (p q : ℕ) (f buffer : List ℕ) (sized : length f ≡ startOf 64) (ro
   -- where the calls lead to
   module _ (sums : Sums) where
     after-erase : next stepOf (site (held 2 0 2 0 0 sums) f) (eraseAll buffer) ≡ site (held 3 0 2 0 0 (refreshed sums w 16 64 16 64)) w
-    unfolding fitOf streamLength freshOf wholeUpload appEnd dataAsked setupOf formOf allowedOf served dnloadOf commandOf wellFormed carriedOut eraseOf movedTo
+    unfolding fitOf streamLength freshOf wholeUpload appEnd dataAsked setupOf formOf allowedOf served dnloadOf commandOf wellFormed
+        carriedOut eraseOf movedTo
     after-erase = next-from _ _ _ (serves (held 2 0 2 0 0 sums) f (eraseAll buffer) refl sized refl refl refl refl refl)
 
     after-seven : next stepOf (site (held 2 0 2 0 0 sums) f) (seven buffer) ≡ site (held 10 0x0B 2 0 0 sums) f
-    unfolding fitOf streamLength freshOf wholeUpload appEnd dataAsked setupOf formOf allowedOf served dnloadOf commandOf wellFormed faultOf movedTo
+    unfolding fitOf streamLength freshOf wholeUpload appEnd dataAsked setupOf formOf allowedOf served dnloadOf commandOf wellFormed
+        faultOf movedTo
     after-seven = next-from _ _ _ (serves (held 2 0 2 0 0 sums) f (seven buffer) refl sized refl refl refl refl refl)
 
-    after-poll : (g : List ℕ) → length g ≡ startOf 64 → next stepOf (site (held 3 0 2 0 0 sums) g) (getStatus buffer) ≡ site (held 2 0 2 0 0 sums) g
-    unfolding fitOf streamLength freshOf wholeUpload appEnd dataAsked setupOf formOf allowedOf served getstatusOf answered polled entered pollTime
+    after-poll :
+        (g : List ℕ) → length g ≡ startOf 64 → next stepOf (site (held 3 0 2 0 0 sums) g) (getStatus buffer)
+        ≡ site (held 2 0 2 0 0 sums) g
+    unfolding fitOf streamLength freshOf wholeUpload appEnd dataAsked setupOf formOf allowedOf served getstatusOf answered polled
+        entered pollTime
     after-poll g long = next-from _ _ _ (serves (held 3 0 2 0 0 sums) g (getStatus buffer) refl long refl refl refl refl refl)
 
     -- a PROG of one byte that brings none, and one that brings a zero
@@ -101,7 +114,8 @@ module _ (p q : ℕ) (f buffer : List ℕ) (sized : length f ≡ startOf 64) (ro
     one-sums = sumsAfter (boardOf 16 64 p q) sums w (startOf 16) 0
 
     after-one : next stepOf (site (held 2 0 2 0 0 sums) w) (progOne buffer) ≡ site (held 3 0 5 16384 1 one-sums) w
-    unfolding one-sums fitOf streamLength freshOf wholeUpload appEnd dataAsked setupOf formOf allowedOf served dnloadOf commandOf wellFormed carriedOut progOf wroteOf movedTo
+    unfolding one-sums fitOf streamLength freshOf wholeUpload appEnd dataAsked setupOf formOf allowedOf served dnloadOf commandOf
+        wellFormed carriedOut progOf wroteOf movedTo
     after-one =
         next-from _ _ (leaves (outcome Answer.Taken 0 (held 3 0 5 16384 1 one-sums)) w buffer)
         (serves (held 2 0 2 0 0 sums) w (progOne buffer) refl w-long refl refl refl refl refl
@@ -111,18 +125,21 @@ module _ (p q : ℕ) (f buffer : List ℕ) (sized : length f ≡ startOf 64) (ro
     zero-sums = sumsAfter (boardOf 16 64 p q) sums z (startOf 16) 1
 
     after-zero : next stepOf (site (held 2 0 2 0 0 sums) w) (progZero buffer) ≡ site (held 3 0 5 16385 0 zero-sums) z
-    unfolding zero-sums fitOf streamLength freshOf wholeUpload appEnd dataAsked setupOf formOf allowedOf served dnloadOf commandOf wellFormed carriedOut progOf wroteOf movedTo
+    unfolding zero-sums fitOf streamLength freshOf wholeUpload appEnd dataAsked setupOf formOf allowedOf served dnloadOf commandOf
+        wellFormed carriedOut progOf wroteOf movedTo
     after-zero =
         next-from _ _ (leaves (outcome Answer.Taken 0 (held 3 0 5 16385 0 zero-sums)) z buffer)
         (serves (held 2 0 2 0 0 sums) w (progZero buffer) refl w-long refl refl refl refl refl
         ∙ rw (w-erased 16 1 (omega arith) (omega arith)))
 
     one-polled : next stepOf (site (held 3 0 5 16384 1 sums) w) (getStatus buffer) ≡ site (held 5 0 2 16384 1 sums) w
-    unfolding fitOf streamLength freshOf wholeUpload appEnd dataAsked setupOf formOf allowedOf served getstatusOf answered polled entered pollTime
+    unfolding fitOf streamLength freshOf wholeUpload appEnd dataAsked setupOf formOf allowedOf served getstatusOf answered polled
+        entered pollTime
     one-polled = next-from _ _ _ (serves (held 3 0 5 16384 1 sums) w (getStatus buffer) refl w-long refl refl refl refl refl)
 
     zero-polled : next stepOf (site (held 3 0 5 16385 0 sums) z) (getStatus buffer) ≡ site (held 5 0 2 16385 0 sums) z
-    unfolding fitOf streamLength freshOf wholeUpload appEnd dataAsked setupOf formOf allowedOf served getstatusOf answered polled entered pollTime
+    unfolding fitOf streamLength freshOf wholeUpload appEnd dataAsked setupOf formOf allowedOf served getstatusOf answered polled
+        entered pollTime
     zero-polled = next-from _ _ _ (serves (held 3 0 5 16385 0 sums) z (getStatus buffer) refl z-long refl refl refl refl refl)
 
     zero-closed : next stepOf (site (held 5 0 2 16385 0 sums) z) (close buffer) ≡ site (held 6 0 2 0 0 sums) z
@@ -130,7 +147,8 @@ module _ (p q : ℕ) (f buffer : List ℕ) (sized : length f ≡ startOf 64) (ro
     zero-closed = next-from _ _ _ (serves (held 5 0 2 16385 0 sums) z (close buffer) refl z-long refl refl refl refl refl)
 
     closed-polled : next stepOf (site (held 6 0 2 0 0 sums) z) (getStatus buffer) ≡ site (held 2 0 2 0 0 sums) z
-    unfolding fitOf streamLength freshOf wholeUpload appEnd dataAsked setupOf formOf allowedOf served getstatusOf answered polled entered pollTime
+    unfolding fitOf streamLength freshOf wholeUpload appEnd dataAsked setupOf formOf allowedOf served getstatusOf answered polled
+        entered pollTime
     closed-polled = next-from _ _ _ (serves (held 6 0 2 0 0 sums) z (getStatus buffer) refl z-long refl refl refl refl refl)
 
   -- where the examples stand: fresh, fresh with all erased, a download of one byte open, one closed, and in error
@@ -144,7 +162,9 @@ module _ (p q : ℕ) (f buffer : List ℕ) (sized : length f ≡ startOf 64) (ro
   unfolding after sums0
   at-start = begins
 
-  through-erase : (cs : List Call) (end : Site) → after stepOf (site (held 2 0 2 0 0 sums1) w) cs ≡ end → after stepOf (freshSite startOutcome p q f) (eraseAll buffer ∷ getStatus buffer ∷ cs) ≡ end
+  through-erase :
+      (cs : List Call) (end : Site) → after stepOf (site (held 2 0 2 0 0 sums1) w) cs ≡ end
+      → after stepOf (freshSite startOutcome p q f) (eraseAll buffer ∷ getStatus buffer ∷ cs) ≡ end
   unfolding sums0 sums1
   through-erase cs end e =
       onward _ _ _ _ _ (ap (λ (x : Site). next stepOf x (eraseAll buffer)) begins ∙ after-erase sums0)
@@ -179,24 +199,37 @@ module _ (p q : ℕ) (f buffer : List ℕ) (sized : length f ≡ startOf 64) (ro
   -- what an example expects, one by one
   example :
       (n : ℕ) (at : Site) (left : Leaves) → after stepOf (nth n .at) (nth n .before) ≡ at → called stepOf at (nth n .call) ≡ left
-      → answerNumber (left .outcome .answer) ≡ nth n .answer → left .outcome .count ≡ length (nth n .reply)
-      → left .outcome .session .phase .state .0 ≡ nth n .state → left .outcome .session .phase .status .0 ≡ nth n .status
+      → heard left ≡ nth n .answer → countOf left ≡ length (nth n .reply)
+      → sessionOf left .phase .state .0 ≡ nth n .state → sessionOf left .phase .status .0 ≡ nth n .status
       → left .reply ≡ nth n .reply ++ drop (length (nth n .reply)) (nth n .call .reply) → left .flash ≡ nth n .flash
       → Expected stepOf (nth n)
   example n at left e h answer count state status reply flash =
       subst (λ (l : Leaves). Meets l (nth n)) (sym (ap (λ (x : Site). called stepOf x (nth n .call)) e ∙ h))
       (record { answer = answer; count = count; state = state; status = status; reply = reply; flash = flash })
 
+  -- what a PROG of the last block leaves, and one over a zero byte
+  abbrev opened : Leaves
+  opened =
+      leaves
+      (outcome Answer.Taken 0 (held 3 0 5 64512 1024 (sumsAfter (boardOf 16 64 p q) sums1 w (startOf 63) 0))) w buffer
+
+  abbrev unerased : Leaves
+  unerased = leaves (outcome Answer.Faulted 0 (held 10 0x05 2 0 0 (zero-sums sums1))) z buffer
+
   -- all that each asks and expects is computed where it stands
   desk : All (Expected stepOf) (deskCases startOutcome p q f buffer)
-  unfolding fitOf streamLength freshOf wholeUpload appEnd dataAsked setupOf formOf allowedOf served stallOf faultOf movedTo answered getstateOf queryOf getstatusOf polled entered pollTime dnloadOf commandOf wellFormed carriedOut eraseOf progOf wroteOf pieceOf closedOf
+  unfolding fitOf streamLength freshOf wholeUpload appEnd dataAsked setupOf formOf allowedOf served stallOf faultOf movedTo answered
+      getstateOf queryOf getstatusOf polled entered pollTime dnloadOf commandOf wellFormed carriedOut eraseOf progOf wroteOf
+      pieceOf closedOf
   desk =
       example 0 _ _ at-start (serves _ f _ refl sized refl refl refl refl refl) refl refl refl refl refl refl
       and example 1 _ _ at-start (serves _ f _ refl sized refl refl refl refl refl) refl refl refl refl refl refl
       and example 2 _ _ at-start (serves _ f _ refl sized refl refl refl refl refl) refl refl refl refl refl refl
       and example 3 _ _ at-start (serves _ f _ refl sized refl refl refl refl refl) refl refl refl refl refl refl
       and example 4 _ _ at-start (serves _ f _ refl sized refl refl refl refl refl) refl refl refl refl refl refl
-      and example 5 _ (leaves (outcome Answer.Taken 0 (held 3 0 5 64512 1024 (sumsAfter (boardOf 16 64 p q) sums1 w (startOf 63) 0))) w buffer) at-erased (serves _ w _ refl w-long refl refl refl refl refl ∙ rw (w-erased 63 1024 (omega arith) (omega arith), spliced-none w (startOf 63))) refl refl refl refl refl refl
+      and example 5 _ opened at-erased
+      (serves _ w _ refl w-long refl refl refl refl refl
+      ∙ rw (w-erased 63 1024 (omega arith) (omega arith), spliced-none w (startOf 63))) refl refl refl refl refl refl
       and example 6 _ _ at-erased (serves _ w _ refl w-long refl refl refl refl refl) refl refl refl refl refl refl
       and example 7 _ _ at-start (serves _ f _ refl sized refl refl refl refl refl) refl refl refl refl refl refl
       and example 8 _ _ at-start (serves _ f _ refl sized refl refl refl refl refl) refl refl refl refl refl refl
@@ -204,7 +237,8 @@ module _ (p q : ℕ) (f buffer : List ℕ) (sized : length f ≡ startOf 64) (ro
       and example 10 _ _ at-error (serves _ f _ refl sized refl refl refl refl refl) refl refl refl refl refl refl
       and example 11 _ _ at-start (stalls _ f _ refl sized refl refl refl refl refl) refl refl refl refl refl refl
       and example 12 _ _ at-one (serves _ w _ refl w-long refl refl refl refl refl) refl refl refl refl refl refl
-      and example 13 _ (leaves (outcome Answer.Faulted 0 (held 10 0x05 2 0 0 (zero-sums sums1))) z buffer) at-zero (serves _ z _ refl z-long refl refl refl refl refl ∙ rw z-unerased) refl refl refl refl refl refl
+      and example 13 _ unerased at-zero
+      (serves _ z _ refl z-long refl refl refl refl refl ∙ rw z-unerased) refl refl refl refl refl refl
       and example 14 _ _ at-error (serves _ f _ refl sized refl refl refl refl refl) refl refl refl refl refl refl
       and example 15 _ _ at-start (stalls _ f _ refl sized refl refl refl refl refl) refl refl refl refl refl refl
       and none

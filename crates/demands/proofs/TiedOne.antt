@@ -1,37 +1,25 @@
 -- No second outcome fits: each promise determines what a call leaves. Assumes nothing.
-use mathlib.Core.Path.{_≡_, refl, sym, _∙_}
-use native.Mathlib.Omega.{arith}
+use Prim.Native.Nat.{ℕ, zero, suc}
+use mathlib.Core.Path.{_≡_, refl, sym, ap, _∙_}
 use Rattle.moves.specs.declared.Answer.{Answer}
 use Rattle.moves.specs.Answers.{answerNumber}
 use Rattle.demands.specs.Tied.{OneOutcome}
 
--- the numbers of the answers are five
-by-number : (x y : Answer) → answerNumber x ≡ answerNumber y → x ≡ y
-by-number Answer.Taken Answer.Taken e = refl
-by-number Answer.Stalled Answer.Stalled e = refl
-by-number Answer.Unfit Answer.Unfit e = refl
-by-number Answer.Faulted Answer.Faulted e = refl
-by-number Answer.ResetAsked Answer.ResetAsked e = refl
-by-number Answer.Taken Answer.Stalled e = absurd (omega (arith, e))
-by-number Answer.Taken Answer.Unfit e = absurd (omega (arith, e))
-by-number Answer.Taken Answer.Faulted e = absurd (omega (arith, e))
-by-number Answer.Taken Answer.ResetAsked e = absurd (omega (arith, e))
-by-number Answer.Stalled Answer.Taken e = absurd (omega (arith, e))
-by-number Answer.Stalled Answer.Unfit e = absurd (omega (arith, e))
-by-number Answer.Stalled Answer.Faulted e = absurd (omega (arith, e))
-by-number Answer.Stalled Answer.ResetAsked e = absurd (omega (arith, e))
-by-number Answer.Unfit Answer.Taken e = absurd (omega (arith, e))
-by-number Answer.Unfit Answer.Stalled e = absurd (omega (arith, e))
-by-number Answer.Unfit Answer.Faulted e = absurd (omega (arith, e))
-by-number Answer.Unfit Answer.ResetAsked e = absurd (omega (arith, e))
-by-number Answer.Faulted Answer.Taken e = absurd (omega (arith, e))
-by-number Answer.Faulted Answer.Stalled e = absurd (omega (arith, e))
-by-number Answer.Faulted Answer.Unfit e = absurd (omega (arith, e))
-by-number Answer.Faulted Answer.ResetAsked e = absurd (omega (arith, e))
-by-number Answer.ResetAsked Answer.Taken e = absurd (omega (arith, e))
-by-number Answer.ResetAsked Answer.Stalled e = absurd (omega (arith, e))
-by-number Answer.ResetAsked Answer.Unfit e = absurd (omega (arith, e))
-by-number Answer.ResetAsked Answer.Faulted e = absurd (omega (arith, e))
+-- the answer of a number
+ofNumber : ℕ → Answer
+ofNumber zero = Answer.Taken
+ofNumber (suc zero) = Answer.Stalled
+ofNumber (suc (suc zero)) = Answer.Unfit
+ofNumber (suc (suc (suc zero))) = Answer.Faulted
+ofNumber (suc (suc (suc (suc n)))) = Answer.ResetAsked
+
+back : (x : Answer) → ofNumber (answerNumber x) ≡ x
+unfolding ofNumber
+back Answer.Taken = refl
+back Answer.Stalled = refl
+back Answer.Unfit = refl
+back Answer.Faulted = refl
+back Answer.ResetAsked = refl
 
 pub OneOutcome-holds : OneOutcome
 OneOutcome-holds =
@@ -39,5 +27,5 @@ OneOutcome-holds =
       equation = λ said left other e h. e ∙ sym h;
       sent = λ n m before after other bytes e h. (e .count ∙ sym (h .count), e .reply ∙ sym (h .reply));
       word = λ bytes at r q e h. e .0 ∙ sym (h .0);
-      answer = by-number;
+      answer = λ x y e. sym (back x) ∙ ap ofNumber e ∙ back y;
     }

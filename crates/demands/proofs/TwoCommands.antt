@@ -74,7 +74,9 @@ module _ (at : Site) (c : Call) (block len : ℕ) (k : Commanded at c 3 8) (rang
         not-erased (at .flash) block len (legal-fits at c block len (k .asks .prepared) legal) (some .0) (some .1) (some .2),
       ))
 
-erase-range : (at : Site) (c : Call) (block count : ℕ) → Commanded at c 4 8 → Counted c block count → (Legal at block (startOf count) → ⊥) → Moves stepOf at c 3 [] 10 0x08
+erase-range :
+    (at : Site) (c : Call) (block count : ℕ) → Commanded at c 4 8 → Counted c block count → (Legal at block (startOf count) → ⊥)
+    → Moves stepOf at c 3 [] 10 0x08
 unfolding carriedOut eraseOf faultOf
 erase-range at c block count k range none =
     so-moves at c Answer.Faulted [] 10 0x08
@@ -85,32 +87,44 @@ module _ (at : Site) (c : Call) where
   info-done : Commanded at c 5 8 → Chooses stepOf at c 0 3 1 (at .session .up .«prefix») (at .session .up .first .0) (at .session .up .len)
   unfolding carriedOut infoOf movedTo
   info-done k =
-      so-chooses at c Answer.Taken 3 1 (at .session .up .«prefix») (at .session .up .first .0) (at .session .up .len) _ refl refl refl refl refl
+      so-chooses at c Answer.Taken 3 1 (at .session .up .«prefix») (at .session .up .first .0) (at .session .up .len) _
+      refl refl refl refl refl
       (command-leaves at c 5 8 k (omega arith) (omega arith) (omega arith) (inr refl))
 
-  bin-off : Commanded at c 6 8 → (getD (c .bytes) 1 0 ≡ 0 → ⊥) → Chooses stepOf at c 0 3 (at .session .up .choice) 0 (at .session .up .first .0) (at .session .up .len)
+  bin-off :
+      Commanded at c 6 8 → (getD (c .bytes) 1 0 ≡ 0 → ⊥)
+      → Chooses stepOf at c 0 3 (at .session .up .choice) 0 (at .session .up .first .0) (at .session .up .len)
   unfolding carriedOut binOf prefixFor movedTo
   bin-off k ne =
-      so-chooses at c Answer.Taken 3 (at .session .up .choice) 0 (at .session .up .first .0) (at .session .up .len) _ refl refl refl refl refl
+      so-chooses at c Answer.Taken 3 (at .session .up .choice) 0 (at .session .up .first .0) (at .session .up .len) _
+      refl refl refl refl refl
       (command-leaves at c 6 8 k (omega arith) (omega arith) (omega arith) (inr refl) ∙ rw (ne-eqb (getD (c .bytes) 1 0) 0 ne))
 
-  bin-on : Commanded at c 6 8 → getD (c .bytes) 1 0 ≡ 0 → Chooses stepOf at c 0 3 (at .session .up .choice) 1 (at .session .up .first .0) (at .session .up .len)
+  bin-on :
+      Commanded at c 6 8 → getD (c .bytes) 1 0 ≡ 0
+      → Chooses stepOf at c 0 3 (at .session .up .choice) 1 (at .session .up .first .0) (at .session .up .len)
   unfolding carriedOut binOf prefixFor movedTo
   bin-on k e =
-      so-chooses at c Answer.Taken 3 (at .session .up .choice) 1 (at .session .up .first .0) (at .session .up .len) _ refl refl refl refl refl
+      so-chooses at c Answer.Taken 3 (at .session .up .choice) 1 (at .session .up .first .0) (at .session .up .len) _
+      refl refl refl refl refl
       (command-leaves at c 6 8 k (omega arith) (omega arith) (omega arith) (inr refl) ∙ rw (eq-eqb (getD (c .bytes) 1 0) 0 e))
 
-  reset-done : Commanded at c 7 8 → Chooses stepOf at c 4 2 0 1 (at .session .board .a .0) ((appEnd (at .session .board) - at .session .board .a .0) * 1024)
+  reset-done :
+      Commanded at c 7 8
+      → Chooses stepOf at c 4 2 0 1 (at .session .board .a .0) ((appEnd (at .session .board) - at .session .board .a .0) * 1024)
   unfolding carriedOut resetOf freshOf wholeUpload
   reset-done k =
-      so-chooses at c Answer.ResetAsked 2 0 1 (at .session .board .a .0) ((appEnd (at .session .board) - at .session .board .a .0) * 1024) _ refl refl refl refl refl
+      so-chooses at c Answer.ResetAsked 2 0 1 (at .session .board .a .0) ((appEnd (at .session .board) - at .session .board .a .0) * 1024) _
+      refl refl refl refl refl
       (command-leaves at c 7 8 k (omega arith) (omega arith) (omega arith) (inr refl))
 
   no-command : (code n : ℕ) → Commanded at c code n → NoCommand code n → Moves stepOf at c 3 [] 10 0x0B
   unfolding faultOf
   no-command code n k none = so-moves at c Answer.Faulted [] 10 0x0B (no-command-leaves at c code n k none)
 
-  piece-data : (n : ℕ) → Asks at c Request.Dnload n → at .session .phase .state .0 ≡ 5 → at .session .down .left < n → Moves stepOf at c 3 [] 10 0x08
+  piece-data :
+      (n : ℕ) → Asks at c Request.Dnload n → at .session .phase .state .0 ≡ 5 → at .session .down .left < n
+      → Moves stepOf at c 3 [] 10 0x08
   unfolding pieceOf faultOf
   piece-data n k loading lt =
       let is = asks-brings at c n k in
@@ -133,7 +147,9 @@ module _ (at : Site) (c : Call) (block len n : ℕ) (k : Commanded at c 1 n) whe
       ∙ rw (range .block-is, range .len-is, illegal-out at block len none))
 
   -- in the application or not: 0x08 either way
-  too-much : 8 + len < n → (t : Bool) → inApplication (at .session .board) block len ≡ t → progOf (at .session) (at .flash) block len (drop 8 (c .bytes)) ≡ done (faultOf (at .session) address) (at .flash)
+  too-much :
+      8 + len < n → (t : Bool) → inApplication (at .session .board) block len ≡ t
+      → progOf (at .session) (at .flash) block len (drop 8 (c .bytes)) ≡ done (faultOf (at .session) address) (at .flash)
   unfolding progOf
   too-much lt true e = rw (e, lt-leb (length (drop 8 (c .bytes))) len (omega (arith, first-long, lt)))
   too-much lt false e = rw e

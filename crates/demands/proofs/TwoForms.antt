@@ -27,7 +27,9 @@ use Rattle.demands.proofs.TwoLaws.{sound-served, sound-stalled}
 
 module _ (setup : List ℕ) (eight : length setup ≡ 8) where
   -- what the parts of eight setup bytes are
-  said : (kind number n : ℕ) → Says setup kind number n → setupOf setup ≡ record { kind = kind; number = number; value = wordAt setup 2; index = 0; length = n }
+  said :
+      (kind number n : ℕ) → Says setup kind number n → setupOf setup
+      ≡ record { kind = kind; number = number; value = wordAt setup 2; index = 0; length = n }
   said kind number n s = setup-read setup eight ∙ rw (s .typed, s .numbered, s .no-index, s .long)
 
   pub form-request : (r : Request) (n : ℕ) → Form setup n r → requestOf setup ≡ r
@@ -110,7 +112,8 @@ told-allowed Request.Dnload n state e =
     inl (eqb-true state 2 (left-of (eqb state 2) (not (eqb n 0)) h), omega arith))
     (λ h. inr (eqb-true state 5 h))
     (either first (eqb state 5) e)
-told-allowed Request.Upload n state e = ⊎-elim (λ h. inl (eqb-true state 2 h)) (λ h. inr (eqb-true state 9 h)) (either (eqb state 2) (eqb state 9) e)
+told-allowed Request.Upload n state e =
+    ⊎-elim (λ h. inl (eqb-true state 2 h)) (λ h. inr (eqb-true state 9 h)) (either (eqb state 2) (eqb state 9) e)
 told-allowed Request.GetStatus n state e = tt
 told-allowed Request.ClrStatus n state e = eqb-true state 10 e
 told-allowed Request.GetState n state e = tt
@@ -133,7 +136,8 @@ asks-served at c r n k a =
 -- what no allowed request in form is leaves
 pub asks-stalled :
     (at : Site) (c : Call) → Prepared at c → NoRequest at c → called stepOf at c ≡ leaves (stallOf (at .session)) (at .flash) (c .reply)
-asks-stalled at c k none = go (requestOf (c .setup)) refl (allowedOf (requestOf (c .setup)) (wLength (c .setup)) (at .session .phase .state .0)) refl
+asks-stalled at c k none =
+    go (requestOf (c .setup)) refl (allowedOf (requestOf (c .setup)) (wLength (c .setup)) (at .session .phase .state .0)) refl
   where
     go :
         (r : Request) → requestOf (c .setup) ≡ r
@@ -152,7 +156,9 @@ asks-brings at c n k =
     ∙ form-length (c .setup) (k .prepared .setup-bytes) Request.Dnload n (k .form)
 
 -- a prepared call that the table does not allow is no request
-pub no-request : (at : Site) (c : Call) → Prepared at c → allowedOf (requestOf (c .setup)) (wLength (c .setup)) (stateOf at) ≡ false → NoRequest at c
+pub no-request :
+    (at : Site) (c : Call) → Prepared at c → allowedOf (requestOf (c .setup)) (wLength (c .setup)) (stateOf at) ≡ false
+    → NoRequest at c
 no-request at c k h x n form a =
     let is = form-request (c .setup) (k .setup-bytes) x n form in
     let long = form-length (c .setup) (k .setup-bytes) x n form in

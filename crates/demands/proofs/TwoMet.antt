@@ -75,7 +75,8 @@ module _ (flash bytes : List ℕ) (code : ℕ) (sized : length flash ≡ startOf
       record {
         asks =
             record {
-              prepared = small-sound (small 2 0 0 0 .session) flash (setups 0x21 1 0 (length bytes) 0) bytes refl sized refl (sym long) refl;
+              prepared =
+                  small-sound (small 2 0 0 0 .session) flash (setups 0x21 1 0 (length bytes) 0) bytes refl sized refl (sym long) refl;
               form = dnload (rw long at (so 0x21 1 0 (length bytes) 0)) few;
             };
         some = some;
@@ -83,14 +84,17 @@ module _ (flash bytes : List ℕ) (code : ℕ) (sized : length flash ≡ startOf
         command = e;
       }
 
-commanded : (bytes : List ℕ) (code : ℕ) → length bytes ≤ 1024 → 1 ≤ length bytes → getD bytes 0 0 ≡ code → Commanded (small 2 0 0 0) (brings bytes) code (length bytes)
+commanded :
+    (bytes : List ℕ) (code : ℕ) → length bytes ≤ 1024 → 1 ≤ length bytes → getD bytes 0 0 ≡ code
+    → Commanded (small 2 0 0 0) (brings bytes) code (length bytes)
 commanded bytes code = commanded-over smallFlash bytes code small-long
 
 -- the eight bytes of a command on block 1 with a 16-bit length or count
 abbrev pub onOne : ℕ → ℕ → ℕ → List ℕ
 onOne code low high = code ∷ 0 ∷ 1 ∷ 0 ∷ low ∷ high ∷ 0 ∷ 0 ∷ []
 
-pub EraseWorks-met : Commanded (small 2 0 0 0) (brings (onOne 4 1 0)) 4 8 × Counted (brings (onOne 4 1 0)) 1 1 × Legal (small 2 0 0 0) 1 (startOf 1)
+pub EraseWorks-met :
+    Commanded (small 2 0 0 0) (brings (onOne 4 1 0)) 4 8 × Counted (brings (onOne 4 1 0)) 1 1 × Legal (small 2 0 0 0) 1 (startOf 1)
 unfolding freshOf appEnd
 EraseWorks-met = (
   commanded (onOne 4 1 0) 4 (omega arith) (omega arith) refl,
@@ -110,7 +114,8 @@ ProgramWorks-met-start = (
   λ i lt. blank-byte (startOf 3) (1024 + i) (omega arith),
 )
 
-pub ProgramWorks-met-piece : (x : ℕ) (place : ℕ) → fitOf (small 5 0 place 1 .session) ≡ true → Asks (small 5 0 place 1) (brings (x ∷ [])) Request.Dnload 1
+pub ProgramWorks-met-piece :
+    (x : ℕ) (place : ℕ) → fitOf (small 5 0 place 1 .session) ≡ true → Asks (small 5 0 place 1) (brings (x ∷ [])) Request.Dnload 1
 unfolding dataAsked setupOf
 ProgramWorks-met-piece x place fit = met 5 0 place 1 0 fit Request.Dnload 1 _ _ refl refl (dnload (so _ _ _ _ _) (omega arith))
 
@@ -160,7 +165,8 @@ no-command-met = (
 -- an empty range is illegal, for whichever command
 pub range-met :
     (code : ℕ)
-    → Commanded (small 2 0 0 0) (brings (onOne code 0 0)) code 8 × Named (brings (onOne code 0 0)) 1 0 × Counted (brings (onOne code 0 0)) 1 0
+    → Commanded (small 2 0 0 0) (brings (onOne code 0 0)) code 8
+    × Named (brings (onOne code 0 0)) 1 0 × Counted (brings (onOne code 0 0)) 1 0
     × (Legal (small 2 0 0 0) 1 0 → ⊥)
 range-met code = (
   commanded (onOne code 0 0) code (omega arith) (omega arith) refl,
@@ -185,8 +191,10 @@ pub unerased-met : (code : ℕ) → Commanded marred (brings (onOne code 1 0)) c
 unfolding freshOf appEnd
 unerased-met code =
     let fits : 1024 + 1 ≤ length smallFlash = rw small-long (omega arith) in
-    let zero-byte : getD (spliced smallFlash 1024 (0 ∷ [])) (1024 + 0) 0 ≡ 0 = spliced-byte smallFlash 1024 (0 ∷ []) fits 0 (omega arith) in (
-      commanded-over (spliced smallFlash 1024 (0 ∷ [])) (onOne code 1 0) code (spliced-length smallFlash 1024 (0 ∷ []) fits ∙ small-long) (omega arith) (omega arith) refl,
+    let g = spliced smallFlash 1024 (0 ∷ []) in
+    let zero-byte : getD g (1024 + 0) 0 ≡ 0 = spliced-byte smallFlash 1024 (0 ∷ []) fits 0 (omega arith) in
+    let long = spliced-length smallFlash 1024 (0 ∷ []) fits ∙ small-long in (
+      commanded-over g (onOne code 1 0) code long (omega arith) (omega arith) refl,
       record { some = omega arith; from = omega arith; to = omega arith },
       (0, omega arith, λ e. omega (arith, zero-byte, e)),
     )

@@ -10,22 +10,24 @@ use Rattle.moves.specs.declared.Answer.{Answer}
 use Rattle.moves.specs.Answers.{Leaves, answerNumber, outcome, leaves}
 use Rattle.moves.specs.Moves.{movedTo, rewound}
 use Rattle.loader.specs.Step.{stepOf}
-use Rattle.demands.specs.Calls.{Call, Site, called}
+use Rattle.demands.specs.Calls.{heard, countOf, sessionOf, Call, Site, called}
 use Rattle.demands.specs.Asked.{Prepared}
 use Rattle.demands.specs.Two.{Answers, Enters, Unchanged, Moves}
 use Rattle.demands.specs.TwoCommands.{Chooses}
 
-module _ (at : Site) (c : Call) (a : Answer) (bytes : List ℕ) (t : Session) (g : List ℕ) (e : called stepOf at c ≡ leaves (outcome a (length bytes) t) g (bytes ++ drop (length bytes) (c .reply))) where
+module _
+    (at : Site) (c : Call) (a : Answer) (bytes : List ℕ) (t : Session) (g : List ℕ)
+    (e : called stepOf at c ≡ leaves (outcome a (length bytes) t) g (bytes ++ drop (length bytes) (c .reply))) where
   pub so-answers : Answers stepOf at c (answerNumber a) bytes
   so-answers =
       record {
-        answer = ap (λ (l : Leaves). answerNumber (l .outcome .answer)) e;
-        count = ap (λ (l : Leaves). l .outcome .count) e;
+        answer = ap (λ (l : Leaves). heard l) e;
+        count = ap (λ (l : Leaves). countOf l) e;
         reply = ap (λ (l : Leaves). l .reply) e;
       }
 
-  pub so-session : called stepOf at c .outcome .session ≡ t
-  so-session = ap (λ (l : Leaves). l .outcome .session) e
+  pub so-session : sessionOf (called stepOf at c) ≡ t
+  so-session = ap (λ (l : Leaves). sessionOf l) e
 
   pub so-flash : called stepOf at c .flash ≡ g
   so-flash = ap (λ (l : Leaves). l .flash) e

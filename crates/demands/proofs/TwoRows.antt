@@ -54,12 +54,15 @@ module _ (at : Site) (c : Call) (n place : ℕ) (k : Asks at c Request.Upload n)
   place-is (inl e) = rw (e .0) (sym (e .1))
   place-is (inr e) = rw (e .0) (sym (e .1))
 
-  uploads : StartsAt at place → called stepOf at c ≡ withFlash (answered (uploadedOf (at .session) n (length (nextBytes at place n))) (nextBytes at place n) (c .reply)) (at .flash)
+  uploads :
+      StartsAt at place → called stepOf at c
+      ≡ withFlash (answered (uploadedOf (at .session) n (length (nextBytes at place n))) (nextBytes at place n) (c .reply)) (at .flash)
   unfolding served uploadOf answerOf nextOf
   uploads e =
       let s = at .session in
       asks-served at c Request.Upload n k (allowed e)
-      ∙ ap (λ (p : ℕ). withFlash (answered (uploadedOf s n (length (nextBytes at p n))) (nextBytes at p n) (c .reply)) (at .flash)) (place-is e)
+      ∙ ap (λ (p : ℕ). withFlash (answered (uploadedOf s n (length (nextBytes at p n))) (nextBytes at p n) (c .reply)) (at .flash))
+      (place-is e)
     where
       allowed : StartsAt at place → (stateOf at ≡ 2) ⊎ (stateOf at ≡ 9)
       allowed (inl e) = inl (e .0)
@@ -82,7 +85,8 @@ module _ (at : Site) (c : Call) (n place : ℕ) (k : Asks at c Request.Upload n)
       let l : called stepOf at c ≡ leaves (outcome Answer.Taken (length b) t) (at .flash) (b ++ drop (length b) (c .reply)) =
       uploads e
       ∙ rw (le-ltb n 1024 le)
-      (ap₂ (λ (p m : ℕ). leaves (outcome Answer.Taken (length b) (uploadingAt s (p + m))) (at .flash) (b ++ drop (length b) (c .reply))) (place-is e) count-is)
+      (ap₂ (λ (p m : ℕ). leaves (outcome Answer.Taken (length b) (uploadingAt s (p + m))) (at .flash) (b ++ drop (length b) (c .reply)))
+      (place-is e) count-is)
       in
       let session = so-session at c Answer.Taken b t (at .flash) l in
       record {
@@ -105,7 +109,10 @@ module _ (at : Site) (c : Call) (k : Asks at c Request.GetStatus 6) where
       let t = withPhase s (phaseOf n status 2) in
       let l : called stepOf at c ≡ leaves (outcome Answer.Taken 6 t) (at .flash) (b ++ drop 6 (c .reply)) =
       asks-served at c Request.GetStatus 6 k tt
-      ∙ ap (λ (m : ℕ). leaves (outcome Answer.Taken 6 (withPhase s (phaseOf m status 2))) (at .flash) ((status ∷ 0 ∷ 0 ∷ 0 ∷ m ∷ 0 ∷ []) ++ drop 6 (c .reply))) e
+      ∙ ap
+      (λ (m : ℕ).
+      leaves (outcome Answer.Taken 6 (withPhase s (phaseOf m status 2))) (at .flash)
+      ((status ∷ 0 ∷ 0 ∷ 0 ∷ m ∷ 0 ∷ []) ++ drop 6 (c .reply))) e
       in
       let session = so-session at c Answer.Taken b t (at .flash) l in
       record {

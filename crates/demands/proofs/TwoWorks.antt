@@ -34,12 +34,17 @@ use Rattle.demands.proofs.TwoDownloads.{legal-in, command-leaves, piece
 pub legal-fits : (at : Site) (c : Call) (block len : ℕ) → Prepared at c → Legal at block len → startOf block + len ≤ length (at .flash)
 legal-fits at c block len k l = omega (arith, l .to, end-in-flash (at .session .board), k .flash-length)
 
-module _ (at : Site) (c : Call) (block count : ℕ) (k : Commanded at c 4 8) (range : Counted c block count) (legal : Legal at block (startOf count)) where
+module _
+    (at : Site) (c : Call) (block count : ℕ) (k : Commanded at c 4 8) (range : Counted c block count)
+    (legal : Legal at block (startOf count)) where
   erase-sums : Sums
   erase-sums =
-      refreshed (at .session .sums) (erased (at .flash) block count) (at .session .board .a .0) (appEnd (at .session .board)) block (block + count)
+      refreshed (at .session .sums) (erased (at .flash) block count) (at .session .board .a .0) (appEnd (at .session .board)) block
+      (block + count)
 
-  erase-leaves : called stepOf at c ≡ leaves (takenOf (toSync (withSums (at .session) erase-sums) idle noDownload)) (erased (at .flash) block count) (c .reply)
+  erase-leaves :
+      called stepOf at c
+      ≡ leaves (takenOf (toSync (withSums (at .session) erase-sums) idle noDownload)) (erased (at .flash) block count) (c .reply)
   unfolding carriedOut eraseOf erase-sums
   erase-leaves =
       command-leaves at c 4 8 k (omega arith) (omega arith) (omega arith) (inr refl)
@@ -74,7 +79,9 @@ pub EraseWorks-holds : EraseWorks stepOf
 EraseWorks-holds = erase-done
 
 -- what a write leaves, where the bytes lie in flash
-module _ (at : Site) (c : Call) (place len : ℕ) (bytes : List ℕ) (k : Prepared at c) (ne : at .session .phase .state .0 ≡ 9 → ⊥) (fits : place + length bytes ≤ length (at .flash)) where
+module _
+    (at : Site) (c : Call) (place len : ℕ) (bytes : List ℕ) (k : Prepared at c) (ne : at .session .phase .state .0 ≡ 9 → ⊥)
+    (fits : place + length bytes ≤ length (at .flash)) where
   written : Session
   written =
       toSync
@@ -82,7 +89,9 @@ module _ (at : Site) (c : Call) (place len : ℕ) (bytes : List ℕ) (k : Prepar
       downloadIdle
       (downOf (place + length bytes) (len - length bytes))
 
-  write-done : called stepOf at c ≡ withReply (wroteOf (at .session) (at .flash) place bytes (len - length bytes)) (c .reply) → BytesDone stepOf at c place len bytes
+  write-done :
+      called stepOf at c ≡ withReply (wroteOf (at .session) (at .flash) place bytes (len - length bytes)) (c .reply)
+      → BytesDone stepOf at c place len bytes
   unfolding wroteOf written movedTo
   write-done e =
       let g = spliced (at .flash) place bytes in
@@ -101,7 +110,9 @@ module _ (at : Site) (c : Call) (place len : ℕ) (bytes : List ℕ) (k : Prepar
             };
       }
 
-module _ (at : Site) (c : Call) (block len n : ℕ) (k : Commanded at c 1 n) (long : 8 ≤ n) (range : Named c block len) (legal : Legal at block len) (few : n ≤ 8 + len) (blank : Blank at block len) where
+module _
+    (at : Site) (c : Call) (block len n : ℕ) (k : Commanded at c 1 n) (long : 8 ≤ n) (range : Named c block len)
+    (legal : Legal at block len) (few : n ≤ 8 + len) (blank : Blank at block len) where
   first-few : length (drop 8 (c .bytes)) ≤ len
   first-few = omega (arith, length-drop 8 (c .bytes), asks-brings at c n (k .asks))
 
@@ -109,7 +120,8 @@ module _ (at : Site) (c : Call) (block len n : ℕ) (k : Commanded at c 1 n) (lo
   unfolding carriedOut progOf
   prog-done =
       let fits = legal-fits at c block len (k .asks .prepared) legal in
-      write-done at c (startOf block) len (drop 8 (c .bytes)) (k .asks .prepared) (λ e. omega (arith, e, k .idle)) (omega (arith, first-few, fits))
+      write-done at c (startOf block) len (drop 8 (c .bytes)) (k .asks .prepared) (λ e. omega (arith, e, k .idle))
+      (omega (arith, first-few, fits))
       (command-leaves at c 1 n k long (omega arith) (omega arith) (inl refl)
       ∙ rw (
         range .block-is,
@@ -119,7 +131,9 @@ module _ (at : Site) (c : Call) (block len n : ℕ) (k : Commanded at c 1 n) (lo
         bytes-erased (at .flash) block len fits blank,
       ))
 
-module _ (at : Site) (c : Call) (n : ℕ) (k : Asks at c Request.Dnload n) (loading : at .session .phase .state .0 ≡ 5) (some : 1 ≤ n) (few : n ≤ at .session .down .left) where
+module _
+    (at : Site) (c : Call) (n : ℕ) (k : Asks at c Request.Dnload n) (loading : at .session .phase .state .0 ≡ 5) (some : 1 ≤ n)
+    (few : n ≤ at .session .down .left) where
   pub written-leaves :
       called stepOf at c
       ≡ withReply
