@@ -11,7 +11,7 @@ use Rattle.flash.specs.Flash.{startOf, nextStart, range, spliced, blank, erased
 use Rattle.flash.proofs.Laws.{length-blank, length-range, spliced-length, spliced-range, erased-blank}
 use Rattle.sums.specs.Sum.{freshSums}
 use Rattle.sums.specs.declared.Sums.{Sums}
-use Rattle.session.specs.Session.{downOf, noDownload, appEnd, boardOf, freshOf, wholeUpload}
+use Rattle.session.specs.Session.{downOf, noDownload, appEnd, freshOf, wholeUpload}
 use Rattle.session.specs.Rules.{inApplication, splitRule, fitOf}
 use Rattle.session.specs.declared.Board.{Board}
 use Rattle.session.proofs.Laws.{fit-kept, fit-facts, facts-fit, end-in-flash, inside-facts, fresh-fit}
@@ -19,7 +19,7 @@ use Rattle.request.specs.Request.{allowedOf}
 use Rattle.stream.specs.Stream.{headerOf}
 use Rattle.moves.specs.Moves.{movedTo}
 use Rattle.loader.specs.Reply.{entered, polled}
-use Rattle.loader.specs.Step.{freshStart, stepOf}
+use Rattle.loader.specs.Step.{stepOf}
 use Rattle.demands.specs.Calls.{Site}
 use Rattle.demands.specs.ReadBack.{Host, ends, asks, Ran, run, dnload, poll, abort, readCommand, eraseCommand}
 use Rattle.demands.specs.ReadBack.{progCommand, joined, gathers, answersOf, reads, clears, sends}

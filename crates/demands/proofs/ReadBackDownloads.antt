@@ -17,7 +17,6 @@ use Rattle.sums.specs.declared.Sums.{Sums}
 use Rattle.session.specs.Codes.{downloadIdle}
 use Rattle.session.specs.Session.{downOf, noDownload, upOf, appEnd, flashStream}
 use Rattle.session.specs.Rules.{splitRule, inApplication}
-use Rattle.session.specs.declared.Board.{Board}
 use Rattle.session.specs.declared.Session.{Session}
 use Rattle.session.proofs.Laws.{end-in-flash, inside-facts}
 use Rattle.request.specs.Request.{allowedOf, wordAt}

@@ -6,7 +6,7 @@ use mathlib.Core.Path.{_≡_, refl, ap, ap₂, _∙_}
 use native.Mathlib.Omega.{arith}
 use borrow.Author.Tests.{eq-eqb, ne-eqb, le-leb, lt-ltb}
 use lib.ListN.{length, getD}
-use Rattle.flash.specs.Flash.{startOf, nextStart, range, erased}
+use Rattle.flash.specs.Flash.{startOf, nextStart, erased}
 use Rattle.sums.specs.declared.Sums.{Sums}
 use Rattle.sums.specs.Sum.{refreshed}
 use Rattle.session.specs.Codes.{idle}

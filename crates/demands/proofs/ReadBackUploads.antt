@@ -12,7 +12,6 @@ use Rattle.flash.specs.Flash.{startOf}
 use Rattle.sums.specs.declared.Sums.{Sums}
 use Rattle.session.specs.Session.{noDownload}
 use Rattle.session.specs.Rules.{splitRule, inApplication}
-use Rattle.session.specs.declared.Board.{Board}
 use Rattle.session.specs.declared.Session.{Session}
 use Rattle.request.specs.declared.Request.{Request}
 use Rattle.request.specs.Request.{allowedOf}

@@ -16,7 +16,7 @@ use Rattle.session.specs.Rules.{fitOf}
 use Rattle.session.specs.declared.Session.{Session}
 use Rattle.request.specs.Request.{setupOf, formOf, requestOf, wLength, dataAsked, allowedOf}
 use Rattle.moves.specs.declared.Answer.{Answer}
-use Rattle.moves.specs.Answers.{Leaves, outcome, leaves, answerNumber}
+use Rattle.moves.specs.Answers.{Leaves, outcome, leaves}
 use Rattle.moves.specs.Moves.{movedTo, stallOf, faultOf}
 use Rattle.command.specs.Download.{allErased, sumsAfter, wroteOf, progOf, eraseOf, wellFormed}
 use Rattle.command.specs.Download.{carriedOut, commandOf, closedOf, pieceOf, dnloadOf}
