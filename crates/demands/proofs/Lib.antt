@@ -22,6 +22,7 @@ pub mod TwoStarts
 pub mod TwoMet
 pub mod TiedDesk
 pub mod TiedOne
+pub mod TiedImpostors
 pub mod ReadBackCalls
 pub mod ReadBackSessions
 pub mod ReadBackParts
