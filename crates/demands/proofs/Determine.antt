@@ -1,10 +1,8 @@
 -- The demands leave no choice: two loaders that meet them stand at the same site after any calls. Assumes nothing.
 use Prim.Native.Nat.{ℕ}
 use mathlib.Core.List.{List, [], _∷_}
-use mathlib.Core.Logic.{_⊎_, inl, inr, ⊎-elim}
-use mathlib.Core.Path.{_≡_, refl, sym, ap, _∙_, subst}
-use native.Mathlib.Decide.{ℕ-discrete, decLe, decLt}
-use native.Mathlib.Omega.{arith}
+use mathlib.Core.Path.{_≡_, sym, subst}
+use native.Mathlib.Decide.{map-dec, ℕ-discrete, decLe, decLt}
 use lib.ListN.{length}
 use Rattle.flash.specs.Flash.{startOf}
 use Rattle.sums.specs.Sum.{mostBlocks, Right}
@@ -19,40 +17,32 @@ use Rattle.demands.specs.Two.{Fresh}
 use Rattle.demands.specs.Three.{Held}
 use Rattle.demands.specs.Determine.{SameStart, SameLeft, Determine}
 use Rattle.demands.proofs.Demands.{meets-demands}
-use Rattle.demands.proofs.DetermineRows.{same-session, Loader, SameFlash, SameSums, same-unfit, same-call}
+use Rattle.demands.proofs.DetermineRows.{Loader, agree, Same, SameFlash, SameSums, same-unfit, same-call}
+
+-- both hold, or not
+both : {P Q : Type 0} → Dec P → Dec Q → Dec (P × Q)
+both (yes p) (yes q) = yes (p, q)
+both (yes p) (no n) = no (λ h. n (h .1))
+both (no n) d = no (λ h. n (h .0))
 
 -- sizes are allowed or not
-allowed-or-not : (f : List ℕ) (a b : ℕ) → AllowedStart f a b ⊎ (AllowedStart f a b → ⊥)
+allowed-or-not : (f : List ℕ) (a b : ℕ) → Dec (AllowedStart f a b)
 allowed-or-not f a b =
-    elim (decLe 1 a) [
-      | yes some ↦
-          elim (decLt a b) [
-            | yes more ↦
-                elim (decLe b mostBlocks) [
-                  | yes few ↦
-                      elim (ℕ-discrete (length f) (startOf b)) [
-                        | yes long ↦ inl (record { some-loader = some; some-application = more; few-blocks = few; sized = long })
-                        | no n ↦ inr (λ h. n (h .sized))
-                      ]
-                  | no n ↦ inr (λ h. n (h .few-blocks))
-                ]
-            | no n ↦ inr (λ h. n (h .some-application))
-          ]
-      | no n ↦ inr (λ h. n (h .some-loader))
-    ]
+    map-dec (λ h. record { some-loader = h .0; some-application = h .1 .0; few-blocks = h .1 .1 .0; sized = h .1 .1 .1 })
+    (λ h. (h .some-loader, (h .some-application, (h .few-blocks, h .sized))))
+    (both (decLe 1 a) (both (decLt a b) (both (decLe b mostBlocks) (ℕ-discrete (length f) (startOf b)))))
 
 module _ (x y : Loader) where
   -- the same is left of a call, and at the same site the next one begins
   same-next :
-      (at : Site) (c : Call) → SameLeft (called (x .step) at c) (called (y .step) at c)
-      → next (x .step) at c ≡ next (y .step) at c
+      (at : Site) (c : Call) → Same x y at c → next (x .step) at c ≡ next (y .step) at c
   unfolding next
   same-next at c same = λ i. record { session = same .session i; flash = same .flash i }
 
   -- from one site on, as long as something holds there that says so of one call
   module _
       (Holds : Site → Type 0)
-      (one : (at : Site) → Holds at → (c : Call) → SameLeft (called (x .step) at c) (called (y .step) at c))
+      (one : (at : Site) → Holds at → (c : Call) → Same x y at c)
       (stays : (at : Site) → Holds at → (c : Call) → Holds (next (x .step) at c)) where
     same-after :
         (at : Site) → Holds at → (calls : List Call) (c : Call)
@@ -86,7 +76,7 @@ module _ (x y : Loader) where
     abbrev BothKeep : Site → Type 0
     BothKeep at = Keeps x at × Keeps y at
 
-    same-kept : (at : Site) → BothKeep at → (c : Call) → SameLeft (called (x .step) at c) (called (y .step) at c)
+    same-kept : (at : Site) → BothKeep at → (c : Call) → Same x y at c
     same-kept at h c = same-call x y at c (kept-sums at (h .0) (h .1) c)
 
     both-stay : (at : Site) → BothKeep at → (c : Call) → BothKeep (next (x .step) at c)
@@ -117,17 +107,16 @@ module _ (x y : Loader) where
         λ z. z .meets .starts .taken f a b part0 part1 h
         in
         record {
-          answer = fresh x .answer ∙ sym (fresh y .answer);
-          count = fresh x .count ∙ sym (fresh y .count);
-          session =
-              same-session _ _
-              (record {
-                board = fresh x .board ∙ sym (fresh y .board);
-                phase = fresh x .phase ∙ sym (fresh y .phase);
-                down = fresh x .down ∙ sym (fresh y .down);
-                up = fresh x .up ∙ sym (fresh y .up);
-                sums = right-unique _ _ f a (appEnd (boardOf a b part0 part1)) (fresh x .sums) (fresh y .sums);
-              });
+          answer = agree x y (λ z. fresh z .answer);
+          count = agree x y (λ z. fresh z .count);
+          session = λ i.
+              record {
+                board = agree x y (λ z. fresh z .board) i;
+                phase = agree x y (λ z. fresh z .phase) i;
+                down = agree x y (λ z. fresh z .down) i;
+                up = agree x y (λ z. fresh z .up) i;
+                sums = right-unique _ _ f a (appEnd (boardOf a b part0 part1)) (fresh x .sums) (fresh y .sums) i;
+              };
         }
 
     begin-refused : (AllowedStart f a b → ⊥) → BeginSame
@@ -136,13 +125,13 @@ module _ (x y : Loader) where
         λ z. z .meets .refused-start f a b part0 part1 none
         in
         record {
-          answer = bad x .answer ∙ sym (bad y .answer);
-          count = bad x .count ∙ sym (bad y .count);
-          session = bad x .session ∙ sym (bad y .session);
+          answer = agree x y (λ z. bad z .answer);
+          count = agree x y (λ z. bad z .count);
+          session = agree x y (λ z. bad z .session);
         }
 
     begin-same : BeginSame
-    begin-same = ⊎-elim (λ h. begin-taken h) (λ none. begin-refused none) (allowed-or-not f a b)
+    begin-same = elim (allowed-or-not f a b) [ yes h ↦ begin-taken h | no none ↦ begin-refused none ]
 
     abbrev beginning : Loader → Site
     beginning z = begun (z .start) f a b part0 part1
@@ -160,8 +149,7 @@ module _ (x y : Loader) where
     unfolding Keeps
     taken-goes-on h =
         let board = boardOf a b part0 part1 in
-        same-after (BothKeep f board) (same-kept f board) (both-stay f board) (beginning x)
-        (
+        same-after (BothKeep f board) (same-kept f board) (both-stay f board) (beginning x) (
           x .meets .history f a b part0 part1 h,
           subst (Keeps f board y) (sym begun-same) (y .meets .history f a b part0 part1 h),
         )
@@ -169,14 +157,14 @@ module _ (x y : Loader) where
     refused-goes-on : (AllowedStart f a b → ⊥) → GoesOn (beginning x) (beginning x)
     unfolding begun
     refused-goes-on none =
-        let zeros = x .meets .starts .refused f a b part0 part1 none .board in
+        let bad = x .meets .refused-start f a b part0 part1 none in
         same-after NonePrepared (λ at n c. same-unfit x y at c (n c)) none-stays (beginning x)
-        (λ c p. let a-zero = ap (λ (k : Board). k .a .0) zeros in omega (arith, a-zero, p .rules .some-loader))
+        (λ c p. x .meets .unfit-exactly .prepared (beginning x) c p (bad .later-answer f c))
 
     goes-on-same : GoesOn (beginning x) (beginning y)
     goes-on-same =
         subst (GoesOn (beginning x)) begun-same
-        (⊎-elim (λ h. taken-goes-on h) (λ none. refused-goes-on none) (allowed-or-not f a b))
+        (elim (allowed-or-not f a b) [ yes h ↦ taken-goes-on h | no none ↦ refused-goes-on none ])
 
 pub demands-determine : Determine
 demands-determine start step meets f a b part0 part1 =

@@ -1,7 +1,7 @@
 -- Two loaders that meet the demands leave the same of one call from one site: the rows say all but the sums, for any loader, and the
 -- sums are pinned by the flash. Assumes nothing.
 use Prim.Native.Nat.{ℕ, _+_, _-_, _<_}
-use mathlib.Core.List.{List, []}
+use mathlib.Core.List.{List}
 use mathlib.Core.Logic.{_⊎_, inl, inr, ⊎-elim}
 use mathlib.Core.Path.{_≡_, refl, sym, ap, _∙_}
 use mathlib.Core.Bool.{Bool, true, false, false≢true}
@@ -9,15 +9,14 @@ use native.Mathlib.Decide.{ℕ-discrete, decLt}
 use native.Mathlib.Omega.{arith}
 use lib.ListN.{length, getD}
 use lib.Seq.{ext-getD}
-use Rattle.session.specs.Session.{downOf, upOf}
 use Rattle.session.specs.declared.Download.{Download}
 use Rattle.session.specs.declared.Upload.{Upload}
 use Rattle.session.specs.declared.Session.{Session}
 use Rattle.request.specs.declared.Request.{Request}
 use Rattle.loader.specs.Step.{ready}
-use Rattle.demands.specs.Calls.{Start, Step, heard, sessionOf, Call, Site, called}
+use Rattle.demands.specs.Calls.{Start, Step, heard, Call, Site, called}
 use Rattle.demands.specs.Asked.{stateOf, Prepared, Form, Allowed, Asks, NoRequest}
-use Rattle.demands.specs.Asked.Form.{dnload, upload, getstatus, clrstatus, getstate, abort, query}
+use Rattle.demands.specs.Asked.Form.{getstatus, clrstatus, getstate, abort, query}
 use Rattle.demands.specs.One.{Unfit}
 use Rattle.demands.specs.Two.{StartsAt, handed, Answers, Enters, Unchanged, Moves, Reports, Uploads}
 use Rattle.demands.specs.TwoCommands.{Rewritten, EraseDone, BytesDone, Chooses, DnloadRow}
@@ -26,18 +25,6 @@ use Rattle.demands.specs.Determine.{SameLeft}
 use Rattle.demands.proofs.Asked.{prepared-ready, ready-prepared}
 use Rattle.demands.proofs.TwoForms.{Covered-holds}
 use Rattle.demands.proofs.TwoCovered.{DnloadRows-hold}
-
--- sessions are the same if their groups are
-pub record SameGroups (s t : Session) : Type 0 where
-  pub board : s .board ≡ t .board
-  pub phase : s .phase ≡ t .phase
-  pub down : s .down ≡ t .down
-  pub up : s .up ≡ t .up
-  pub sums : s .sums ≡ t .sums
-
-pub same-session : (s t : Session) → SameGroups s t → s ≡ t
-same-session s t g =
-    λ i. record { board = g .board i; phase = g .phase i; down = g .down i; up = g .up i; sums = g .sums i }
 
 -- flashes are the same that are the same one rewritten in the same way
 same-rewritten :
@@ -65,6 +52,10 @@ pub record Loader : Type 0 where
   pub step : Step
   pub meets : MeetsDemands start step
 
+-- what has one value at every loader is the same at two of them
+pub agree : {A : Type 0} {v : A} {of : Loader → A} (x y : Loader) → ((z : Loader) → of z ≡ v) → of x ≡ of y
+agree x y e = e x ∙ sym (e y)
+
 -- all that a row says of a call but for the sums and the flash
 record Pinned
     (step : Step) (at : Site) (c : Call) (number : ℕ) (bytes : List ℕ) (n status after : ℕ) (download : Download) (upload : Upload)
@@ -85,6 +76,7 @@ prepared-or-not at c =
     go true e = inl (ready-prepared at c e)
     go false e = inr (λ p. false≢true (sym e ∙ prepared-ready at c p))
 
+-- what two loaders leave of a call
 module _ (x y : Loader) (at : Site) (c : Call) where
   abbrev pub Same : Type 0
   Same = SameLeft (called (x .step) at c) (called (y .step) at c)
@@ -101,11 +93,11 @@ module _ (x y : Loader) (at : Site) (c : Call) where
       let two : (z : Loader) → heard (called (z .step) at c) ≡ 2 = λ z. z .meets .unfit-exactly .unprepared at c none in
       let left : (z : Loader) → Unfit at c (called (z .step) at c) = λ z. z .meets .refused at c .unfit (two z) in
       record {
-        answer = two x ∙ sym (two y);
-        count = left x .quiet .count ∙ sym (left y .quiet .count);
-        session = left x .session ∙ sym (left y .session);
-        flash = left x .quiet .flash ∙ sym (left y .quiet .flash);
-        reply = left x .quiet .reply ∙ sym (left y .quiet .reply);
+        answer = agree x y two;
+        count = agree x y (λ z. left z .quiet .count);
+        session = agree x y (λ z. left z .session);
+        flash = agree x y (λ z. left z .quiet .flash);
+        reply = agree x y (λ z. left z .quiet .reply);
       }
 
   -- prepared: a law for each record of the rows
@@ -114,37 +106,35 @@ module _ (x y : Loader) (at : Site) (c : Call) where
         {number : ℕ} {bytes : List ℕ} {n status after : ℕ} {download : Download} {upload : Upload}
         → ((z : Loader) → Pinned (z .step) at c number bytes n status after download upload) → SameFlash → Same
     same-pinned p flash =
-        let enters : (z : Loader) → Enters (z .step) at c _ _ _ = λ z. p z .enters in
         record {
-          answer = p x .answers .answer ∙ sym (p y .answers .answer);
-          count = p x .answers .count ∙ sym (p y .answers .count);
-          session =
-              same-session (handed (x .step) at c) (handed (y .step) at c)
-              (record {
-                board = enters x .board ∙ sym (enters y .board);
-                phase = λ i.
+          answer = agree x y (λ z. p z .answers .answer);
+          count = agree x y (λ z. p z .answers .count);
+          session = λ i.
+              record {
+                board = agree x y (λ z. p z .enters .board) i;
+                phase =
                     record {
-                      state = record { 0 = (enters x .state ∙ sym (enters y .state)) i };
-                      status = record { 0 = (enters x .says ∙ sym (enters y .says)) i };
-                      after = record { 0 = (enters x .leads ∙ sym (enters y .leads)) i };
+                      state = record { 0 = agree x y (λ z. p z .enters .state) i };
+                      status = record { 0 = agree x y (λ z. p z .enters .says) i };
+                      after = record { 0 = agree x y (λ z. p z .enters .leads) i };
                     };
-                down = p x .downloads ∙ sym (p y .downloads);
-                up = p x .uploads ∙ sym (p y .uploads);
-                sums = summed flash;
-              });
+                down = agree x y (λ z. p z .downloads) i;
+                up = agree x y (λ z. p z .uploads) i;
+                sums = summed flash i;
+              };
           flash = flash;
-          reply = p x .answers .reply ∙ sym (p y .answers .reply);
+          reply = agree x y (λ z. p z .answers .reply);
         }
 
     same-unchanged :
         {number : ℕ} {bytes : List ℕ} → ((z : Loader) → Unchanged (z .step) at c number bytes) → Same
     same-unchanged u =
         record {
-          answer = u x .answers .answer ∙ sym (u y .answers .answer);
-          count = u x .answers .count ∙ sym (u y .answers .count);
-          session = u x .session ∙ sym (u y .session);
-          flash = u x .flash ∙ sym (u y .flash);
-          reply = u x .answers .reply ∙ sym (u y .answers .reply);
+          answer = agree x y (λ z. u z .answers .answer);
+          count = agree x y (λ z. u z .answers .count);
+          session = agree x y (λ z. u z .session);
+          flash = agree x y (λ z. u z .flash);
+          reply = agree x y (λ z. u z .answers .reply);
         }
 
     same-moves :
@@ -152,26 +142,26 @@ module _ (x y : Loader) (at : Site) (c : Call) where
     same-moves m =
         same-pinned
         (λ z. record { answers = m z .answers; enters = m z .enters; downloads = m z .no-download; uploads = m z .upload })
-        (m x .flash ∙ sym (m y .flash))
+        (agree x y (λ z. m z .flash))
 
     same-reports : {entered : ℕ} → ((z : Loader) → Reports (z .step) at c entered) → Same
     same-reports r =
         same-pinned
         (λ z. record { answers = r z .answers; enters = r z .enters; downloads = r z .download; uploads = r z .upload })
-        (r x .flash ∙ sym (r y .flash))
+        (agree x y (λ z. r z .flash))
 
     same-uploads : {place n : ℕ} → ((z : Loader) → Uploads (z .step) at c place n) → Same
     same-uploads u =
         same-pinned
         (λ z. record { answers = u z .answers; enters = u z .enters; downloads = u z .none-loading; uploads = u z .upload })
-        (u x .flash ∙ sym (u y .flash))
+        (agree x y (λ z. u z .flash))
 
     same-chooses :
         {number n choice flag first len : ℕ} → ((z : Loader) → Chooses (z .step) at c number n choice flag first len) → Same
     same-chooses k =
         same-pinned
         (λ z. record { answers = k z .answers; enters = k z .enters; downloads = k z .no-download; uploads = k z .upload })
-        (k x .flash ∙ sym (k y .flash))
+        (agree x y (λ z. k z .flash))
 
     same-erased : {block count : ℕ} → ((z : Loader) → EraseDone (z .step) at c block count) → Same
     same-erased e =
@@ -243,7 +233,7 @@ module _ (x y : Loader) (at : Site) (c : Call) where
           | no not-ten ↦ same-moves (λ z. z .meets .rows at c .stalled p none not-ten)
         ]
 
-    -- the length of a request whose form has one
+    -- a request whose form names its length
     asks-of : (r : Request) (n m : ℕ) → n ≡ m → Prepared at c → Form (c .setup) n r → Asks at c r m
     asks-of r n m e p form = record { prepared = p; form = rw e at form }
 
