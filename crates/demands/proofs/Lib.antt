@@ -31,3 +31,5 @@ pub mod ReadBackDownloads
 pub mod ReadBack
 pub mod ThreeMet
 pub mod Demands
+pub mod DetermineRows
+pub mod Determine
