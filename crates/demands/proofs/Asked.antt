@@ -10,6 +10,7 @@ use lib.Dec.{eqb, leb}
 use lib.ListN.{length, getD}
 use Rattle.flash.specs.Flash.{startOf}
 use Rattle.session.specs.Rules.{fitOf}
+use Rattle.session.proofs.Laws.{fit-facts, facts-fit}
 use Rattle.session.proofs.Tests.{left-of, right-of}
 use Rattle.request.specs.Request.{wordAt, setupOf, dataAsked}
 use Rattle.loader.specs.Step.{ready}
@@ -65,7 +66,7 @@ module _ (at : Site) (c : Call) where
         flash-length = sized;
         dnload-data = λ h. brought ∙ asked-dnload (c .setup) eight h;
         other-data = λ n. brought ∙ asked-other (c .setup) eight n;
-        rules = fit;
+        rules = fit-facts (at .session) fit;
       }
 
   pub prepared-asked : Prepared at c → length (c .bytes) ≡ dataAsked (c .setup)
@@ -84,7 +85,7 @@ module _ (at : Site) (c : Call) where
         le-leb 1024 (length (c .reply)) (p .room),
         eq-eqb (length (at .flash)) (startOf (at .session .board .b .0)) (p .flash-length),
         eq-eqb (length (c .bytes)) (dataAsked (c .setup)) (prepared-asked p),
-        p .rules,
+        facts-fit (at .session) (p .rules),
       )
 
   pub ready-prepared :

@@ -22,7 +22,9 @@ unfolding blank
 blank-byte n i lt = getD-replicate n i 255 0 lt
 
 -- a byte of a splice
-pub spliced-byte : (f : List ℕ) (at : ℕ) (d : List ℕ) → at + length d ≤ length f → (i : ℕ) → i < length d → getD (spliced f at d) (at + i) 0 ≡ getD d i 0
+pub spliced-byte :
+    (f : List ℕ) (at : ℕ) (d : List ℕ) → at + length d ≤ length f → (i : ℕ) → i < length d → getD (spliced f at d) (at + i) 0
+    ≡ getD d i 0
 spliced-byte f at d h i lt =
     sym (range-byte (spliced f at d) at (length d) i lt) ∙ ap (λ (l : List ℕ). getD l i 0) (spliced-range f at d h)
 
@@ -90,7 +92,9 @@ module _ (f : List ℕ) (block n : ℕ) (h : startOf block + n ≤ length f) whe
       go false e = e
 
 -- a part of what was erased is erased
-pub erased-part : (f : List ℕ) (first count block n : ℕ) → startOf first + startOf count ≤ length f → first ≤ block → startOf block + n ≤ startOf first + startOf count → allErased (erased f first count) block n ≡ true
+pub erased-part :
+    (f : List ℕ) (first count block n : ℕ) → startOf first + startOf count ≤ length f → first ≤ block
+    → startOf block + n ≤ startOf first + startOf count → allErased (erased f first count) block n ≡ true
 erased-part f first count block n h low high =
     let long = erased-length f first count h in
     bytes-erased (erased f first count) block n (omega arith) λ i lt.

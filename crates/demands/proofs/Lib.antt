@@ -1,4 +1,5 @@
 -- What the user is promised: the proofs.
+pub mod Small
 pub mod Ways
 pub mod Asked
 pub mod OneOutside
@@ -29,3 +30,6 @@ pub mod ReadBackUploads
 pub mod ReadBackDownloads
 pub mod ReadBack
 pub mod ThreeMet
+pub mod Demands
+pub mod DetermineRows
+pub mod Determine

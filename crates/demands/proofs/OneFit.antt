@@ -13,14 +13,15 @@ use lib.ListN.{length, getD, drop}
 use Rattle.flash.specs.Flash.{startOf}
 use Rattle.sums.specs.Sum.{mostBlocks, freshSums}
 use Rattle.session.specs.Codes.{idle, downloadSync, downloadIdle, manifestSync, uploadIdle, error, ok, stalled}
-use Rattle.session.specs.Session.{appEnd, phaseOf, downOf, noDownload, upOf, flashStream, infoBytes, boardOf, withPhase, withUp, withSums, streamLength, zerosOf}
+use Rattle.session.specs.Session.{appEnd, phaseOf, downOf, noDownload, upOf, flashStream, infoBytes}
+use Rattle.session.specs.Session.{boardOf, withPhase, withUp, withSums, streamLength, zerosOf}
 use Rattle.session.specs.Rules.{splitRule, stateRule, statusRule, running, downloadRule, uploadRule, afterRule, inApplication}
 use Rattle.session.specs.Rules.{rangeRule, placeRule, flagsRule, fitOf}
 use Rattle.session.specs.declared.Phase.{Phase}
 use Rattle.session.specs.declared.Download.{Download}
 use Rattle.session.specs.declared.Upload.{Upload}
 use Rattle.session.specs.declared.Session.{Session}
-use Rattle.session.proofs.Laws.{fit-kept, kept-fit, fit-facts, end-in-flash, split-facts, zeros-unfit, fresh-fit}
+use Rattle.session.proofs.Laws.{fit-kept, kept-fit, fit-facts, facts-fit, end-in-flash, split-facts, zeros-unfit, fresh-fit}
 use Rattle.session.proofs.Tests.{left-of, right-of, or-unless, where-true, pick-most}
 use Rattle.request.specs.Request.{wordAt, wLength}
 use Rattle.stream.proofs.Laws.{next-length}
@@ -33,10 +34,11 @@ use Rattle.command.specs.Download.{longAt, wroteOf, infoOf, binOf, prefixFor}
 use Rattle.command.proofs.Laws.{ready-place}
 use Rattle.loader.specs.Reply.{entered, polled, getstatusOf, getstateOf, queryOf, answered}
 use Rattle.loader.specs.Upload.{placeOf, answerOf, uploadEnds, uploadingAt, uploadedOf, uploadOf}
-use Rattle.loader.specs.Step.{startable, freshStart, startOutcome}
+use Rattle.loader.specs.Step.{startable, freshStart, startOutcome, stepOf}
 use Rattle.loader.proofs.Laws.{place-in-stream, start-split, start-sized}
-use Rattle.demands.specs.Calls.{Call, Site, called, next}
-use Rattle.demands.specs.One.{heard, StaysFit, AllowedStart, StartsFit, RefusedStart, FaultStatus, not-erased, out-of-range, bytes-missing, bad-command}
+use Rattle.demands.specs.Calls.{sessionOf, heard, Call, Site, called, next}
+use Rattle.demands.specs.One.{StaysFit, AllowedStart, StartsFit, RefusedStart, FaultStatus}
+use Rattle.demands.specs.One.{not-erased, out-of-range, bytes-missing, bad-command}
 use Rattle.demands.proofs.Ways.{pick, every-way}
 use Rattle.demands.proofs.OneOutside.{piece-place}
 use Rattle.demands.proofs.OneRefused.{refused-holds, unfit-exactly-holds}
@@ -267,14 +269,15 @@ module _ (s : Session) (e : fitOf s ≡ true) where
             ]
       ]
 
-pub stays-fit-holds : StaysFit
+-- the rules as the code tests them stay kept
+tests-stay : (at : Site) (c : Call) → fitOf (at .session) ≡ true → fitOf (next stepOf at c .session) ≡ true
 unfolding next called getstatusOf getstateOf queryOf answered unfitOf faultOf resetOf
-stays-fit-holds at c e =
+tests-stay at c e =
     let s = at .session in
     let f = at .flash in
     let d = c .bytes in
     let k = fit-kept s e in
-    every-way s f (c .setup) d (c .reply) (λ (l : Leaves). fitOf (l .outcome .session) ≡ true)
+    every-way s f (c .setup) d (c .reply) (λ (l : Leaves). fitOf (sessionOf l) ≡ true)
     (record {
       unfits = λ _. e;
       stalls = λ _ _. stall-fit s e;
@@ -299,6 +302,9 @@ stays-fit-holds at c e =
       queries = λ _ _. e;
       idles = λ _. idle-fit s e;
     })
+
+pub stays-fit-holds : StaysFit stepOf
+stays-fit-holds at c fit = fit-facts (next stepOf at c .session) (tests-stay at c (facts-fit (at .session) fit))
 
 -- what a start finds
 allowed-startable : (f : List ℕ) (a b : ℕ) → AllowedStart f a b → startable (length f) a b ≡ true
@@ -337,7 +343,7 @@ not-started f a b part0 part1 n =
     pick (λ o. o ≡ outcome Answer.Unfit 0 zerosOf) (startable (length f) a b) _ _
     (λ e. absurd (n (startable-allowed f a b e))) (λ _. refl)
 
-pub starts-fit-holds : StartsFit
+pub starts-fit-holds : StartsFit startOutcome
 unfolding freshStart
 starts-fit-holds f a b part0 part1 h =
     let e = started f a b part0 part1 h in
@@ -346,14 +352,16 @@ starts-fit-holds f a b part0 part1 h =
     record {
       answer = ap (λ (o : Outcome). answerNumber (o .answer)) e;
       count = ap (λ (o : Outcome). o .count) e;
-      fit = ap (λ (o : Outcome). fitOf (o .session)) e ∙ fresh-fit board (freshSums f a (appEnd board)) split;
+      fit =
+          fit-facts (startOutcome f a b part0 part1 .session)
+          (ap (λ (o : Outcome). fitOf (o .session)) e ∙ fresh-fit board (freshSums f a (appEnd board)) split);
     }
 
 -- a call with an unfit session is unfit
-unfit-call : (at : Site) (c : Call) → fitOf (at .session) ≡ false → heard (called at c) ≡ 2
-unfit-call at c e = unfit-exactly-holds .unprepared at c (λ p. false≢true (sym e ∙ p .rules))
+unfit-call : (at : Site) (c : Call) → fitOf (at .session) ≡ false → heard (called stepOf at c) ≡ 2
+unfit-call at c e = unfit-exactly-holds .unprepared at c (λ p. false≢true (sym e ∙ facts-fit (at .session) (p .rules)))
 
-pub refused-start-holds : RefusedStart
+pub refused-start-holds : RefusedStart startOutcome stepOf
 refused-start-holds f a b part0 part1 n =
     let e = not-started f a b part0 part1 n in
     let site : List ℕ → Site = λ g. record { session = startOutcome f a b part0 part1 .session; flash = g } in

@@ -1,90 +1,75 @@
--- The premises of demand 1 can be met: a flash of two blocks, the second the application's, and a call for each row of the answer
--- table. Assumes nothing.
-use Prim.Native.Nat.{ℕ, _≤_}
-use mathlib.Core.Bool.{true}
+-- The premises of demand 1 can be met: on the small board, a call for each row of the answer table. Assumes nothing.
+use Prim.Native.Nat.{ℕ}
 use mathlib.Core.List.{List, [], _∷_}
 use mathlib.Core.Logic.{inl, inr}
 use mathlib.Core.Path.{_≡_, refl, sym, ap, _∙_}
 use native.Mathlib.Omega.{arith}
 use lib.ListN.{length}
-use Rattle.flash.specs.Flash.{startOf, blank}
-use Rattle.flash.proofs.Laws.{length-blank}
+use Rattle.flash.specs.Flash.{startOf}
 use Rattle.sums.specs.Sum.{freshSums}
-use Rattle.session.specs.Session.{appEnd, boardOf, freshOf}
-use Rattle.session.specs.Rules.{fitOf}
+use Rattle.session.specs.Session.{appEnd, freshOf}
+use Rattle.session.specs.Fit.{Fit}
 use Rattle.session.specs.declared.Board.{Board}
-use Rattle.session.proofs.Laws.{fresh-fit}
+use Rattle.session.proofs.Laws.{fit-facts, fresh-fit}
 use Rattle.request.specs.Request.{wordAt, allowedOf, formOf, setupOf}
 use Rattle.request.specs.declared.Request.{Request}
 use Rattle.moves.specs.Moves.{stallOf, faultOf, resetOf}
 use Rattle.command.specs.Download.{wellFormed, carriedOut, commandOf, dnloadOf}
-use Rattle.loader.specs.Step.{served}
-use Rattle.demands.specs.Calls.{Call, Site, called, next}
+use Rattle.loader.specs.Step.{served, stepOf}
+use Rattle.demands.specs.Calls.{heard, Call, Site, called, next}
 use Rattle.demands.specs.Asked.{SaysDnload, Prepared, Form, Allowed, NoRequest}
 use Rattle.demands.specs.Asked.Form.{dnload}
-use Rattle.demands.specs.One.{OutsideApp, heard, InError, AllowedStart}
+use Rattle.demands.specs.One.{OutsideApp, InError, AllowedStart}
+use Rattle.demands.proofs.Small.{smallBoard, smallFlash, small-long, smallSession, lent, roomy}
 use Rattle.demands.proofs.TwoForms.{no-request}
 use Rattle.demands.proofs.OneOutside.{outside-holds}
 use Rattle.demands.proofs.OneRefused.{refused-holds, unfit-exactly-holds, goes-on}
 use Rattle.demands.proofs.OneFit.{stays-fit-holds}
 
--- the board: A = 1, B = 2
-abbrev pub smallBoard : Board
-smallBoard = boardOf 1 2 0 0
-
-unfoldable pub smallFlash : List ℕ
-smallFlash = blank (startOf 2)
-
+-- where a start leads to
 unfoldable pub small : Site
-small = record { session = freshOf smallBoard (freshSums smallFlash 1 2); flash = smallFlash }
+small = record { session = smallSession; flash = smallFlash }
 
 -- the sizes that a start allows, and others
-pub allowed-met : AllowedStart smallFlash 1 2
-unfolding smallFlash
+pub allowed-met : AllowedStart smallFlash 1 3
 allowed-met =
     record {
       some-loader = omega arith;
       some-application = omega arith;
       few-blocks = omega arith;
-      sized = length-blank (startOf 2);
+      sized = small-long;
     }
 
-pub not-allowed-met : AllowedStart smallFlash 2 2 → ⊥
+pub not-allowed-met : AllowedStart smallFlash 3 3 → ⊥
 not-allowed-met h = omega (arith, h .some-application)
 
 -- addresses outside the application, on both sides of it
-pub outside-met : OutsideApp smallBoard 1023 × OutsideApp smallBoard 2048
+pub outside-met : OutsideApp smallBoard 1023 × OutsideApp smallBoard 3072
 unfolding appEnd
 outside-met = (inl (omega arith), inr (omega arith))
 
 -- a fit session
-pub stays-fit-met : fitOf (small .session) ≡ true
+pub stays-fit-met : Fit (small .session)
 unfolding small
-stays-fit-met = fresh-fit smallBoard (freshSums smallFlash 1 2) refl
-
-abbrev pub callOf : List ℕ → List ℕ → Call
-callOf setup bytes = record { setup = setup; bytes = bytes; reply = blank 1024 }
+stays-fit-met = fit-facts (small .session) (fresh-fit smallBoard (freshSums smallFlash 1 3) refl)
 
 -- CLRSTATUS in state 2, a command of one byte, RESET, no setup
 abbrev pub clrstatus : Call
-clrstatus = callOf (0x21 ∷ 4 ∷ 0 ∷ 0 ∷ 0 ∷ 0 ∷ 0 ∷ 0 ∷ []) []
+clrstatus = lent (0x21 ∷ 4 ∷ 0 ∷ 0 ∷ 0 ∷ 0 ∷ 0 ∷ 0 ∷ []) []
 
 abbrev pub oneByte : Call
-oneByte = callOf (0x21 ∷ 1 ∷ 0 ∷ 0 ∷ 0 ∷ 0 ∷ 1 ∷ 0 ∷ []) (4 ∷ [])
+oneByte = lent (0x21 ∷ 1 ∷ 0 ∷ 0 ∷ 0 ∷ 0 ∷ 1 ∷ 0 ∷ []) (4 ∷ [])
 
 abbrev pub resetCommand : Call
-resetCommand = callOf (0x21 ∷ 1 ∷ 0 ∷ 0 ∷ 0 ∷ 0 ∷ 8 ∷ 0 ∷ []) (7 ∷ 0 ∷ 0 ∷ 0 ∷ 0 ∷ 0 ∷ 0 ∷ 0 ∷ [])
+resetCommand = lent (0x21 ∷ 1 ∷ 0 ∷ 0 ∷ 0 ∷ 0 ∷ 8 ∷ 0 ∷ []) (7 ∷ 0 ∷ 0 ∷ 0 ∷ 0 ∷ 0 ∷ 0 ∷ 0 ∷ [])
 
 abbrev pub noSetup : Call
-noSetup = callOf [] []
+noSetup = lent [] []
 
 -- what is the same for calls with the small site
 small-sized : length (small .flash) ≡ startOf (small .session .board .b .0)
-unfolding small smallFlash freshOf
-small-sized = length-blank (startOf 2)
-
-roomy : 1024 ≤ length (blank 1024)
-roomy = omega (arith, length-blank 1024)
+unfolding small freshOf
+small-sized = small-long
 
 pub prepared-met : Prepared small clrstatus
 prepared-met =
@@ -99,7 +84,7 @@ prepared-met =
 
 dnload-prepared :
     (setup bytes : List ℕ) → length setup ≡ 8 → SaysDnload setup → length bytes ≡ wordAt setup 6
-    → Prepared small (callOf setup bytes)
+    → Prepared small (lent setup bytes)
 dnload-prepared setup bytes eight says brought =
     record {
       setup-bytes = eight;
@@ -128,30 +113,30 @@ pub allowed-call-met : Form (oneByte .setup) 1 Request.Dnload × Allowed Request
 allowed-call-met = (dnload (record { typed = refl; numbered = refl; no-index = refl; long = refl }) (omega arith), inl (refl, omega arith))
 
 -- each row's answer
-pub stalled-met : heard (called small clrstatus) ≡ 1
+pub stalled-met : heard (called stepOf small clrstatus) ≡ 1
 unfolding small freshOf formOf setupOf allowedOf stallOf
 stalled-met = ap heard (goes-on small clrstatus prepared-met)
 
-pub unfit-met : heard (called small noSetup) ≡ 2
+pub unfit-met : heard (called stepOf small noSetup) ≡ 2
 unfit-met = unfit-exactly-holds .unprepared small noSetup not-prepared-met
 
-pub faulted-met : heard (called small oneByte) ≡ 3
+pub faulted-met : heard (called stepOf small oneByte) ≡ 3
 unfolding small freshOf formOf setupOf allowedOf served dnloadOf commandOf wellFormed faultOf
 faulted-met = ap heard (goes-on small oneByte one-byte-prepared)
 
-pub reset-asked-met : heard (called small resetCommand) ≡ 4
+pub reset-asked-met : heard (called stepOf small resetCommand) ≡ 4
 unfolding small freshOf formOf setupOf allowedOf served dnloadOf commandOf wellFormed carriedOut resetOf
 reset-asked-met = ap heard (goes-on small resetCommand reset-prepared)
 
 -- a stall in state 10: the call after the stall above, ABORT
 abbrev pub abort : Call
-abort = callOf (0x21 ∷ 6 ∷ 0 ∷ 0 ∷ 0 ∷ 0 ∷ 0 ∷ 0 ∷ []) []
+abort = lent (0x21 ∷ 6 ∷ 0 ∷ 0 ∷ 0 ∷ 0 ∷ 0 ∷ 0 ∷ []) []
 
-stalled-once : InError (small .session) (next small clrstatus .session) 0x0F
+stalled-once : InError (small .session) (next stepOf small clrstatus .session) 0x0F
 unfolding next small freshOf
 stalled-once = refused-holds small clrstatus .stalled stalled-met .elsewhere (λ e. omega (arith, e))
 
-abort-prepared : Prepared (next small clrstatus) abort
+abort-prepared : Prepared (next stepOf small clrstatus) abort
 abort-prepared =
     record {
       setup-bytes = refl;
@@ -165,8 +150,9 @@ abort-prepared =
       rules = stays-fit-holds small clrstatus stays-fit-met;
     }
 
-pub in-ten-met : (next small clrstatus .session .phase .state .0 ≡ 10) × (heard (called (next small clrstatus) abort) ≡ 1)
+pub in-ten-met :
+    (next stepOf small clrstatus .session .phase .state .0 ≡ 10) × (heard (called stepOf (next stepOf small clrstatus) abort) ≡ 1)
 unfolding formOf setupOf allowedOf stallOf
 in-ten-met =
     let e = stalled-once .in-state in
-    (e, ap heard (goes-on (next small clrstatus) abort abort-prepared) ∙ rw e)
+    (e, ap heard (goes-on (next stepOf small clrstatus) abort abort-prepared) ∙ rw e)

@@ -21,6 +21,7 @@ use Rattle.command.proofs.Laws.{ready-within, ready-place}
 use Rattle.moves.specs.Moves.{stallOf, unfitOf, faultOf, resetOf}
 use Rattle.loader.specs.Reply.{getstatusOf, getstateOf, queryOf, answered}
 use Rattle.loader.specs.Upload.{uploadOf}
+use Rattle.loader.specs.Step.{stepOf}
 use Rattle.demands.specs.Calls.{called, next}
 use Rattle.demands.specs.One.{Untouched, Outside}
 use Rattle.demands.proofs.Ways.{Loads, every-way}
@@ -50,7 +51,7 @@ piece-place s f setup n l h =
     let high = fit .left-to r in
     record { low = low; high = omega arith }
 
-pub outside-holds : Outside
+pub outside-holds : Outside stepOf
 unfolding next called wroteOf infoOf binOf stallOf unfitOf faultOf resetOf getstatusOf getstateOf queryOf answered uploadOf erased
 outside-holds at c =
     let s = at .session in

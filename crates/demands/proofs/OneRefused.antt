@@ -8,6 +8,9 @@ use borrow.Author.Tests.{eq-eqb, ne-eqb}
 use lib.ListN.{length}
 use Rattle.flash.specs.Flash.{startOf}
 use Rattle.session.specs.Session.{appEnd, phaseOf, downOf, upOf, wholeUpload, freshOf}
+use Rattle.session.specs.declared.Phase.{Phase}
+use Rattle.session.specs.declared.Download.{Download}
+use Rattle.session.specs.declared.Upload.{Upload}
 use Rattle.session.specs.declared.Session.{Session}
 use Rattle.request.specs.Request.{wLength, requestOf, allowedOf}
 use Rattle.request.specs.declared.Request.{Request}
@@ -17,49 +20,45 @@ use Rattle.command.specs.Download.{wroteOf, infoOf, binOf}
 use Rattle.loader.specs.Reply.{getstatusOf, getstateOf, queryOf, answered}
 use Rattle.loader.specs.Upload.{uploadOf}
 use Rattle.loader.specs.Step.{ready, served, stepOf}
-use Rattle.demands.specs.Calls.{Call, Site, called}
+use Rattle.demands.specs.Calls.{heard, Call, Site, called}
 use Rattle.demands.specs.Asked.{Prepared, Form, Allowed, NoRequest}
-use Rattle.demands.specs.One.{heard, Settled, InError, Stalled, FaultStatus, Faulted, AsFresh, AnswerRows, Refused}
+use Rattle.demands.specs.One.{Settled, InError, Stalled, FaultStatus, Faulted, AsFresh, AnswerRows, Refused}
 use Rattle.demands.specs.One.{UnfitExactly, StalledExactly}
 use Rattle.demands.proofs.Ways.{pick, every-way}
 use Rattle.demands.proofs.Asked.{prepared-ready, ready-prepared}
 use Rattle.demands.proofs.TwoForms.{request-form, no-request, asks-stalled}
 
--- what a move to state 10 leaves, and what a RESET does
+-- a session with these groups is settled
 settled :
-    (s : Session) (state status choice flag first len : ℕ)
-    → Settled s
-    (record {
-      board = s .board;
-      phase = phaseOf state status 2;
-      down = downOf 0 0;
-      up = upOf choice flag first len 0;
-      sums = s .sums;
-    })
-    state status choice flag first len
-settled s state status choice flag first len =
+    (s t : Session) (state status choice flag first len : ℕ) → t .board ≡ s .board → t .phase ≡ phaseOf state status 2
+    → t .down ≡ downOf 0 0 → t .up ≡ upOf choice flag first len 0 → t .sums ≡ s .sums
+    → Settled s t state status choice flag first len
+settled s t state status choice flag first len board phase down up sums =
     record {
-      board = refl;
-      in-state = refl;
-      told = refl;
-      after-sync = refl;
-      down-place = refl;
-      down-left = refl;
-      chosen = refl;
-      prefix-flag = refl;
-      range-first = refl;
-      range-length = refl;
-      up-place = refl;
-      sums = refl;
+      board = board;
+      in-state = ap (λ (p : Phase). p .state .0) phase;
+      told = ap (λ (p : Phase). p .status .0) phase;
+      after-sync = ap (λ (p : Phase). p .after .0) phase;
+      down-place = ap (λ (d : Download). d .place .0) down;
+      down-left = ap (λ (d : Download). d .left) down;
+      chosen = ap (λ (u : Upload). u .choice) up;
+      prefix-flag = ap (λ (u : Upload). u .«prefix») up;
+      range-first = ap (λ (u : Upload). u .first .0) up;
+      range-length = ap (λ (u : Upload). u .len) up;
+      up-place = ap (λ (u : Upload). u .place) up;
+      sums = sums;
     }
 
+-- what a move to state 10 leaves, and what a RESET does
 errored : (s : Session) (status : ℕ) → InError s (toError s status) status
 unfolding movedTo
-errored s status = settled s 10 status (s .up .choice) (s .up .«prefix») (s .up .first .0) (s .up .len)
+errored s status =
+    settled s (toError s status) 10 status (s .up .choice) (s .up .«prefix») (s .up .first .0) (s .up .len) refl refl refl refl refl
 
 freshened : (s : Session) → AsFresh s (resetOf s .session)
 unfolding resetOf freshOf wholeUpload
-freshened s = settled s 2 0 0 1 (s .board .a .0) (startOf (appEnd (s .board) - s .board .a .0))
+freshened s =
+    settled s (resetOf s .session) 2 0 0 1 (s .board .a .0) (startOf (appEnd (s .board) - s .board .a .0)) refl refl refl refl refl
 
 stalled-row :
     (at : Site) (c : Call) → NoRequest at c
@@ -103,7 +102,7 @@ in-form at c p q = (
   request-form (c .setup) (p .setup-bytes) Request.Dnload q (λ z. subst (λ (r : Request). Allowed r 0 5) z (inr refl)),
 )
 
-prepared-rows : (at : Site) (c : Call) → Prepared at c → AnswerRows at c (called at c)
+prepared-rows : (at : Site) (c : Call) → Prepared at c → AnswerRows at c (called stepOf at c)
 unfolding called wroteOf infoOf binOf unfitOf stallOf faultOf resetOf getstatusOf getstateOf queryOf answered uploadOf
 prepared-rows at c p =
     let s = at .session in
@@ -162,28 +161,30 @@ unfit-rows at c =
     }
 
 -- a call that the first test refuses
-unready : (at : Site) (c : Call) → ready (at .session) (length (at .flash)) (c .setup) (length (c .bytes)) (length (c .reply)) ≡ false → called at c ≡ leaves (unfitOf (at .session)) (at .flash) (c .reply)
+unready :
+    (at : Site) (c : Call) → ready (at .session) (length (at .flash)) (c .setup) (length (c .bytes)) (length (c .reply)) ≡ false
+    → called stepOf at c ≡ leaves (unfitOf (at .session)) (at .flash) (c .reply)
 unfolding called stepOf
 unready at c e = rw e
 
-pub refused-holds : Refused
+pub refused-holds : Refused stepOf
 refused-holds at c = go (ready (at .session) (length (at .flash)) (c .setup) (length (c .bytes)) (length (c .reply))) refl
   where
     go :
         (t : Bool) → ready (at .session) (length (at .flash)) (c .setup) (length (c .bytes)) (length (c .reply)) ≡ t
-        → AnswerRows at c (called at c)
+        → AnswerRows at c (called stepOf at c)
     go true e = prepared-rows at c (ready-prepared at c e)
     go false e = subst⁻¹ (AnswerRows at c) (unready at c e) (unfit-rows at c)
 
 module _ (at : Site) (c : Call) where
-  unprepared-unfit : (Prepared at c → ⊥) → heard (called at c) ≡ 2
+  unprepared-unfit : (Prepared at c → ⊥) → heard (called stepOf at c) ≡ 2
   unfolding called stepOf unfitOf
   unprepared-unfit n =
       pick (λ (l : Leaves). heard l ≡ 2)
       (ready (at .session) (length (at .flash)) (c .setup) (length (c .bytes)) (length (c .reply))) _ _
       (λ e. absurd (n (ready-prepared at c e))) (λ _. refl)
 
-  prepared-served : Prepared at c → heard (called at c) ≡ 2 → ⊥
+  prepared-served : Prepared at c → heard (called stepOf at c) ≡ 2 → ⊥
   unfolding called wroteOf infoOf binOf stallOf faultOf resetOf getstatusOf getstateOf queryOf answered uploadOf
   prepared-served p =
       every-way (at .session) (at .flash) (c .setup) (c .bytes) (c .reply) (λ (l : Leaves). heard l ≡ 2 → ⊥)
@@ -207,7 +208,7 @@ module _ (at : Site) (c : Call) where
         idles = λ _ h. omega arith;
       })
 
-pub unfit-exactly-holds : UnfitExactly
+pub unfit-exactly-holds : UnfitExactly stepOf
 unfit-exactly-holds = record { unprepared = unprepared-unfit; prepared = prepared-served }
 
 -- whether the table allows what a setup is read as
@@ -217,17 +218,17 @@ allowedCall at c = allowedOf (requestOf (c .setup)) (wLength (c .setup)) (at .se
 -- a prepared call goes on to form and state
 pub goes-on :
     (at : Site) (c : Call) → Prepared at c
-    → called at c
+    → called stepOf at c
     ≡ cond (allowedCall at c)
     (served (requestOf (c .setup)) (at .session) (at .flash) (wLength (c .setup)) (c .bytes) (c .reply))
     (leaves (stallOf (at .session)) (at .flash) (c .reply))
 unfolding called stepOf
 goes-on at c p = rw (prepared-ready at c p)
 
-unallowed-stalls : (at : Site) (c : Call) → Prepared at c → NoRequest at c → heard (called at c) ≡ 1
+unallowed-stalls : (at : Site) (c : Call) → Prepared at c → NoRequest at c → heard (called stepOf at c) ≡ 1
 unfolding stallOf
 unallowed-stalls at c p none = ap heard (asks-stalled at c p none)
 
-pub stalled-exactly-holds : StalledExactly
+pub stalled-exactly-holds : StalledExactly stepOf
 stalled-exactly-holds =
     record { not-allowed = unallowed-stalls; allowed = λ at c r n form a h. refused-holds at c .stalled h .when r n form a }

@@ -18,7 +18,7 @@ use Rattle.command.specs.Download.{dnloadOf}
 use Rattle.loader.specs.Reply.{getstatusOf}
 use Rattle.loader.specs.Upload.{uploadOf}
 use Rattle.loader.specs.Step.{ready, served, stepOf, withReply, withFlash}
-use Rattle.demands.specs.Calls.{Call, Site, called, next}
+use Rattle.demands.specs.Calls.{sessionOf, Call, Site, called, next}
 use Rattle.demands.proofs.Asked.{prepared-from, prepared-ready}
 use Rattle.demands.specs.ReadBack.{Host, asks, replied, wasTaken, ranAfter, run}
 use Rattle.demands.specs.ReadBack.{setupFor, dnload, upload, poll, abort}
@@ -30,11 +30,11 @@ siteOf s f = record { session = s; flash = f }
 -- a taken call: the host goes on at what it leaves
 pub on-taken :
     {A : Type 0} (at : Site) (c : Call) (go : List ℕ → Host A) (n : ℕ) (s : Session) (f reply : List ℕ)
-    → called at c ≡ leaves (outcome Answer.Taken n s) f reply
-    → run at (asks c go) ≡ run (siteOf s f) (go (take n reply))
+    → called stepOf at c ≡ leaves (outcome Answer.Taken n s) f reply
+    → run stepOf at (asks c go) ≡ run stepOf (siteOf s f) (go (take n reply))
 unfolding run next replied wasTaken ranAfter
 on-taken {A} at c go n s f reply e =
-    ap (λ (l : Leaves). ranAfter (wasTaken l) (run (siteOf (l .outcome .session) (l .flash)) (go (replied l)))) e
+    ap (λ (l : Leaves). ranAfter (wasTaken l) (run stepOf (siteOf (sessionOf l) (l .flash)) (go (replied l)))) e
 
 -- the setup of a DNLOAD of so many bytes
 module _ (n : ℕ) (few : n ≤ 1024) where
@@ -83,7 +83,7 @@ module _
 module _ (s : Session) (f lent : List ℕ) (r : Ready s f) (room : 1024 ≤ length lent) where
   pub dnload-called :
       (d : List ℕ) → length d ≤ 1024 → allowedOf Request.Dnload (length d) (s .phase .state .0) ≡ true
-      → called (siteOf s f) (dnload lent d) ≡ withReply (dnloadOf s f d) lent
+      → called stepOf (siteOf s f) (dnload lent d) ≡ withReply (dnloadOf s f d) lent
   unfolding called dnload served setupFor
   dnload-called d few a =
       is-served s f (setupFor 0x21 1 (length d)) d lent r room refl (sym (dnload-asked (length d) few)) Request.Dnload (length d)
@@ -91,18 +91,18 @@ module _ (s : Session) (f lent : List ℕ) (r : Ready s f) (room : 1024 ≤ leng
 
   pub upload-called :
       allowedOf Request.Upload 1024 (s .phase .state .0) ≡ true
-      → called (siteOf s f) (upload lent) ≡ withFlash (uploadOf s f 1024 lent) f
+      → called stepOf (siteOf s f) (upload lent) ≡ withFlash (uploadOf s f 1024 lent) f
   unfolding called upload served setupFor setupOf formOf dataAsked
   upload-called a = is-served s f (setupFor 0xA1 2 1024) [] lent r room refl refl Request.Upload 1024 refl refl a
 
   pub poll-called :
       allowedOf Request.GetStatus 6 (s .phase .state .0) ≡ true
-      → called (siteOf s f) (poll lent) ≡ withFlash (getstatusOf s lent) f
+      → called stepOf (siteOf s f) (poll lent) ≡ withFlash (getstatusOf s lent) f
   unfolding called poll served setupFor setupOf formOf dataAsked
   poll-called a = is-served s f (setupFor 0xA1 3 6) [] lent r room refl refl Request.GetStatus 6 refl refl a
 
   pub abort-called :
       allowedOf Request.Abort 0 (s .phase .state .0) ≡ true
-      → called (siteOf s f) (abort lent) ≡ leaves (takenOf (toIdle s)) f lent
+      → called stepOf (siteOf s f) (abort lent) ≡ leaves (takenOf (toIdle s)) f lent
   unfolding called abort served setupFor setupOf formOf dataAsked
   abort-called a = is-served s f (setupFor 0x21 6 0) [] lent r room refl refl Request.Abort 0 refl refl a

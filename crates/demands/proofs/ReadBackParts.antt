@@ -6,7 +6,7 @@ use mathlib.Core.Path.{_≡_, refl, ap, ap₂, _∙_}
 use native.Mathlib.Omega.{arith}
 use borrow.Author.Tests.{eq-eqb, ne-eqb, le-leb, lt-ltb}
 use lib.ListN.{length, getD}
-use Rattle.flash.specs.Flash.{startOf, nextStart, range, erased}
+use Rattle.flash.specs.Flash.{startOf, nextStart, erased}
 use Rattle.sums.specs.declared.Sums.{Sums}
 use Rattle.sums.specs.Sum.{refreshed}
 use Rattle.session.specs.Codes.{idle}
@@ -23,7 +23,7 @@ use Rattle.command.specs.Ready.{Ready}
 use Rattle.command.specs.Download.{longAt, dnloadOf, commandOf, carriedOut, wellFormed, readOf, eraseOf}
 use Rattle.command.proofs.Laws.{long-enough}
 use Rattle.loader.specs.Reply.{answered, polled, getstatusOf}
-use Rattle.loader.specs.Step.{withReply}
+use Rattle.loader.specs.Step.{withReply, stepOf}
 use Rattle.demands.specs.Calls.{called}
 use Rattle.demands.specs.ReadBack.{Host, ends, asks, run, dnload, poll, readCommand, eraseCommand}
 use Rattle.demands.proofs.ReadBackCalls.{siteOf, on-taken, is-yes, dnload-called, poll-called}
@@ -32,14 +32,14 @@ use Rattle.demands.proofs.ReadBackSessions.{idle-fit}
 
 module _ (s : Session) (f lent : List ℕ) (r : Ready s f) (room : 1024 ≤ length lent) where
   -- a poll
-  pub polled-on : {A : Type 0} (h : Host A) → run (siteOf s f) (asks (poll lent) (λ _. h)) ≡ run (siteOf (polled s) f) h
+  pub polled-on : {A : Type 0} (h : Host A) → run stepOf (siteOf s f) (asks (poll lent) (λ _. h)) ≡ run stepOf (siteOf (polled s) f) h
   unfolding getstatusOf answered allowedOf
   polled-on h = on-taken (siteOf s f) (poll lent) (λ _. h) _ (polled s) f _ (poll-called s f lent r room (fit-kept s (r .fit) .state))
 
   -- a well-formed command in state idle is carried out
   pub command-called :
       (d : List ℕ) → s .phase .state .0 ≡ idle → wellFormed d ≡ true → length d ≤ 1024
-      → called (siteOf s f) (dnload lent d) ≡ withReply (carriedOut (getD d 0 0) s f d) lent
+      → called stepOf (siteOf s f) (dnload lent d) ≡ withReply (carriedOut (getD d 0 0) s f d) lent
   unfolding dnloadOf commandOf allowedOf
   command-called d in-idle w few =
       let long = long-enough d w in
@@ -60,8 +60,8 @@ pub read-called :
     (s : Session) (f lent : List ℕ) (block len : ℕ) → Ready s f → 1024 ≤ length lent → s .phase .state .0 ≡ idle
     → s .up .«prefix» ≡ 1
     → inApplication (s .board) block len ≡ true
-    → called (siteOf s f) (dnload lent (readCommand block len))
-    ≡ leaves (takenOf (inState (s .board) block len atCommand noDownload 0 (s .sums))) f lent
+    → called stepOf (siteOf s f) (dnload lent (readCommand block len))
+    ≡ leaves (takenOf (inState s block len atCommand noDownload 0 (s .sums))) f lent
 unfolding readCommand wellFormed carriedOut readOf movedTo
 read-called s f lent block len r room in-idle prefixed legal =
     let small = near (s .board) block len (fit-kept s (r .fit) .split) legal in
@@ -90,19 +90,22 @@ module _ (board : Board) (block len : ℕ) (sums : Sums) (f : List ℕ) where
   wiped-sums = refreshed sums (erased f block (nextStart len)) (board .a .0) (appEnd board) block (block + nextStart len)
 
 module _
-    (board : Board) (block len : ℕ) (sums : Sums) (f lent : List ℕ) (split : splitRule board ≡ true)
-    (legal : inApplication board block len ≡ true) (sized : length f ≡ startOf (board .b .0)) (room : 1024 ≤ length lent) where
+    (base : Session) (block len : ℕ) (sums : Sums) (f lent : List ℕ) (split : splitRule (base .board) ≡ true)
+    (legal : inApplication (base .board) block len ≡ true) (sized : length f ≡ startOf (base .board .b .0))
+    (room : 1024 ≤ length lent) where
   pub erase-called :
-      called (siteOf (inState board block len atIdle noDownload 0 sums) f) (dnload lent (eraseCommand block (nextStart len)))
-      ≡ leaves (takenOf (inState board block len atCommand noDownload 0 (wiped-sums board block len sums f))) (erased f block (nextStart len)) lent
+      called stepOf (siteOf (inState base block len atIdle noDownload 0 sums) f) (dnload lent (eraseCommand block (nextStart len)))
+      ≡ leaves (takenOf (inState base block len atCommand noDownload 0 (wiped-sums (base .board) block len sums f)))
+      (erased f block (nextStart len))
+      lent
   unfolding eraseCommand wellFormed carriedOut eraseOf movedTo
   erase-called =
-      let s = inState board block len atIdle noDownload 0 sums in
-      let small = near board block len split legal in
+      let s = inState base block len atIdle noDownload 0 sums in
+      let small = near (base .board) block len split legal in
       let count = nextStart len in
       let the-block : wordAt (eraseCommand block count) 2 ≡ block = omega arith in
       let the-count : wordAt (eraseCommand block count) 4 ≡ count = omega arith in
-      command-called s f lent (record { fit = idle-fit board block len split legal sums; sized = sized }) room
+      command-called s f lent (record { fit = idle-fit base block len split legal sums; sized = sized }) room
       (eraseCommand block count) refl refl (omega arith)
       ∙ ap₂ (λ (b n : ℕ). withReply (eraseOf s f b n) lent) the-block the-count
-      ∙ ap (λ (x : Done). withReply x lent) (is-yes _ _ _ (blocks-legal board block len legal))
+      ∙ ap (λ (x : Done). withReply x lent) (is-yes _ _ _ (blocks-legal (base .board) block len legal))

@@ -1,5 +1,5 @@
--- The sessions that reading back goes through: a board, a range that lies in its application, the prefix on, and each of the run's
--- states with its download, its upload's place and its sums. Each is fit. Assumes nothing.
+-- The sessions that reading back goes through: that of the start with a range that lies in its application, the prefix on, and each of
+-- the run's states with its download, its upload's place and its sums. Each is fit. Assumes nothing.
 use Prim.Native.Nat.{ℕ, _+_, _≤_}
 use mathlib.Core.Bool.{true, _&&_, _||_}
 use mathlib.Core.List.{List, _++_}
@@ -13,6 +13,7 @@ use Rattle.flash.proofs.Laws.{length-range}
 use Rattle.sums.specs.declared.Sums.{Sums}
 use Rattle.session.specs.Codes.{idle, downloadSync, downloadIdle, uploadIdle, ok}
 use Rattle.session.specs.Session.{phaseOf, downOf, noDownload, upOf, appEnd, flashStream, streamLength}
+use Rattle.session.specs.Session.{withPhase, withDown, withUp, withSums}
 use Rattle.session.specs.Rules.{stateRule, statusRule, downloadRule, afterRule, placeRule, splitRule, inApplication, fitOf}
 use Rattle.session.specs.declared.Board.{Board}
 use Rattle.session.specs.declared.Phase.{Phase}
@@ -22,11 +23,12 @@ use Rattle.session.proofs.Laws.{kept-fit}
 use Rattle.stream.specs.Stream.{headerOf, prefixOf, streamOf}
 use Rattle.stream.proofs.Laws.{header-length}
 
-module _ (board : Board) (block len : ℕ) where
-  abbrev pub inState : Phase → Download → ℕ → Sums → Session
-  inState phase down place sums =
-      record { board = board; phase = phase; down = down; up = upOf flashStream 1 block len place; sums = sums }
+-- a session with the range chosen, in a state, with a download, a place in the stream and its sums
+abbrev pub inState : Session → ℕ → ℕ → Phase → Download → ℕ → Sums → Session
+inState base block len phase down place sums =
+    withSums (withUp (withDown (withPhase base phase) down) (upOf flashStream 1 block len place)) sums
 
+module _ (board : Board) (block len : ℕ) where
   -- the header of the range and the range
   abbrev pub image : List ℕ → List ℕ
   image f = headerOf (upOf flashStream 1 block len 0) ++ range f (startOf block) len
@@ -57,7 +59,9 @@ atPiece = phaseOf downloadSync ok downloadIdle
 abbrev pub atDownload : Phase
 atDownload = phaseOf downloadIdle ok idle
 
-module _ (board : Board) (block len : ℕ) (split : splitRule board ≡ true) (legal : inApplication board block len ≡ true) (sums : Sums) where
+module _
+    (base : Session) (block len : ℕ) (split : splitRule (base .board) ≡ true) (legal : inApplication (base .board) block len ≡ true)
+    (sums : Sums) where
   -- the rules that the board, the range and the flags don't settle
   state-fit : (phase : Phase) (down : Download) (place : ℕ)
       → stateRule phase ≡ true
@@ -66,11 +70,11 @@ module _ (board : Board) (block len : ℕ) (split : splitRule board ≡ true) (l
       → (eqb (phase .state .0) uploadIdle || eqb place 0) ≡ true
       → place ≤ 8 + len
       → afterRule phase ≡ true
-      → placeRule board phase down ≡ true
-      → fitOf (inState board block len phase down place sums) ≡ true
+      → placeRule (base .board) phase down ≡ true
+      → fitOf (inState base block len phase down place sums) ≡ true
   unfolding streamLength
   state-fit phase down place state status download where-upload upload after at =
-      kept-fit (inState board block len phase down place sums)
+      kept-fit (inState base block len phase down place sums)
       (record {
         split = split;
         state = state;
@@ -83,21 +87,25 @@ module _ (board : Board) (block len : ℕ) (split : splitRule board ≡ true) (l
         flags = refl;
       })
 
-  pub idle-fit : fitOf (inState board block len atIdle noDownload 0 sums) ≡ true
+  pub idle-fit : fitOf (inState base block len atIdle noDownload 0 sums) ≡ true
   idle-fit = state-fit atIdle noDownload 0 refl refl refl refl (omega arith) refl refl
 
-  pub command-fit : fitOf (inState board block len atCommand noDownload 0 sums) ≡ true
+  pub command-fit : fitOf (inState base block len atCommand noDownload 0 sums) ≡ true
   command-fit = state-fit atCommand noDownload 0 refl refl refl refl (omega arith) refl refl
 
-  pub upload-fit : (place : ℕ) → place ≤ 8 + len → fitOf (inState board block len atUpload noDownload place sums) ≡ true
+  pub upload-fit : (place : ℕ) → place ≤ 8 + len → fitOf (inState base block len atUpload noDownload place sums) ≡ true
   upload-fit place h = state-fit atUpload noDownload place refl refl refl refl h refl refl
 
-  module _ (at left : ℕ) (from : startOf (board .a .0) ≤ at) (to : at + left ≤ startOf (appEnd board)) where
-    placed : (leb (startOf (board .a .0)) at && leb at (startOf (appEnd board)) && leb (at + left) (startOf (appEnd board))) ≡ true
-    placed = rw (le-leb _ _ from, le-leb at (startOf (appEnd board)) (omega arith), le-leb _ _ to)
+  module _ (at left : ℕ) (from : startOf (base .board .a .0) ≤ at) (to : at + left ≤ startOf (appEnd (base .board))) where
+    placed :
+        (leb (startOf (base .board .a .0)) at
+        && leb at (startOf (appEnd (base .board)))
+        && leb (at + left) (startOf (appEnd (base .board))))
+        ≡ true
+    placed = rw (le-leb _ _ from, le-leb at (startOf (appEnd (base .board))) (omega arith), le-leb _ _ to)
 
-    pub piece-fit : fitOf (inState board block len atPiece (downOf at left) 0 sums) ≡ true
+    pub piece-fit : fitOf (inState base block len atPiece (downOf at left) 0 sums) ≡ true
     piece-fit = state-fit atPiece (downOf at left) 0 refl refl refl refl (omega arith) refl placed
 
-    pub download-fit : fitOf (inState board block len atDownload (downOf at left) 0 sums) ≡ true
+    pub download-fit : fitOf (inState base block len atDownload (downOf at left) 0 sums) ≡ true
     download-fit = state-fit atDownload (downOf at left) 0 refl refl refl refl (omega arith) refl placed

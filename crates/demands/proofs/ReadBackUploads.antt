@@ -12,7 +12,6 @@ use Rattle.flash.specs.Flash.{startOf}
 use Rattle.sums.specs.declared.Sums.{Sums}
 use Rattle.session.specs.Session.{noDownload}
 use Rattle.session.specs.Rules.{splitRule, inApplication}
-use Rattle.session.specs.declared.Board.{Board}
 use Rattle.session.specs.declared.Session.{Session}
 use Rattle.request.specs.declared.Request.{Request}
 use Rattle.request.specs.Request.{allowedOf}
@@ -21,7 +20,7 @@ use Rattle.moves.specs.Answers.{Replied}
 use Rattle.command.specs.Ready.{Ready}
 use Rattle.loader.specs.Reply.{answered}
 use Rattle.loader.specs.Upload.{placeOf, answerOf, uploadEnds, uploadingAt, uploadedOf, uploadOf}
-use Rattle.loader.specs.Step.{withFlash}
+use Rattle.loader.specs.Step.{withFlash, stepOf}
 use Rattle.demands.specs.ReadBack.{Host, ends, asks, Ran, run, upload, keep, joined, gathers, answersOf}
 use Rattle.demands.proofs.ReadBackCalls.{siteOf, on-taken, is-no, upload-called}
 use Rattle.demands.proofs.ReadBackSessions.{inState, image, image-streamed, atIdle, atUpload}
@@ -61,9 +60,9 @@ keep-last (x ∷ xs) few =
     (subst (λ (ys : List ℕ). Pieces (a ∷ []) ys) (append-nil a) (more (omega arith) few (λ h. absurd (omega arith)) none))
 
 -- UPLOADs: the host hears the stream from the session's place on
-module _ (board : Board) (block len : ℕ) (sums : Sums) (f lent : List ℕ) where
+module _ (base : Session) (block len : ℕ) (sums : Sums) (f lent : List ℕ) where
   abbrev pub stream : List ℕ
-  stream = image board block len f
+  stream = image (base .board) block len f
 
   -- a session that is about to answer from a place of the stream
   record Reading (s : Session) (place : ℕ) : Type 0 where
@@ -71,17 +70,17 @@ module _ (board : Board) (block len : ℕ) (sums : Sums) (f lent : List ℕ) whe
     allowed : allowedOf Request.Upload 1024 (s .phase .state .0) ≡ true
     stands : placeOf s ≡ place
     streams : streamOf (s .board) (s .up) f ≡ stream
-    goes-on : (q : ℕ) → uploadingAt s q ≡ inState board block len atUpload noDownload q sums
+    goes-on : (q : ℕ) → uploadingAt s q ≡ inState base block len atUpload noDownload q sums
 
   uploaded-on :
       {A : Type 0} (s : Session) (p : ℕ) → Reading s p → 1024 ≤ length lent → (go : List ℕ → Host A)
-      → run (siteOf s f) (asks (upload lent) go)
-      ≡ run (siteOf (inState board block len atUpload noDownload (p + length (take 1024 (drop p stream))) sums) f)
+      → run stepOf (siteOf s f) (asks (upload lent) go)
+      ≡ run stepOf (siteOf (inState base block len atUpload noDownload (p + length (take 1024 (drop p stream))) sums) f)
       (go (take 1024 (drop p stream)))
   unfolding uploadOf uploadedOf uploadEnds answerOf nextOf answered
   uploaded-on s p w room go =
       let a = take 1024 (drop p stream) in
-      let given : uploadOf s f 1024 lent ≡ answered (inState board block len atUpload noDownload (p + length a) sums) a lent =
+      let given : uploadOf s f 1024 lent ≡ answered (inState base block len atUpload noDownload (p + length a) sums) a lent =
       ap₂
       (λ (q : ℕ) (xs : List ℕ). answered (uploadingAt s (q + length (take 1024 (drop q xs)))) (take 1024 (drop q xs)) lent)
       (w .stands) (w .streams)
@@ -89,12 +88,12 @@ module _ (board : Board) (block len : ℕ) (sums : Sums) (f lent : List ℕ) whe
       in
       on-taken (siteOf s f) (upload lent) go (length a) _ f _
       (upload-called s f lent (w .ready) room (w .allowed) ∙ ap (λ (x : Replied). withFlash x f) given)
-      ∙ ap (λ (x : List ℕ). run (siteOf (inState board block len atUpload noDownload (p + length a) sums) f) (go x))
+      ∙ ap (λ (x : List ℕ). run stepOf (siteOf (inState base block len atUpload noDownload (p + length a) sums) f) (go x))
       (take-append-seam a (drop (length a) lent))
 
   -- what the uploads leave: all taken, the session at the stream's end, and the stream in pieces behind what the host had
   pub record Gathered (r : Ran (List (List ℕ))) (got : List (List ℕ)) (xs : List ℕ) : Type 0 where
-    pub stops : r .site ≡ siteOf (inState board block len atUpload noDownload (8 + len) sums) f
+    pub stops : r .site ≡ siteOf (inState base block len atUpload noDownload (8 + len) sums) f
     pub taken : r .taken ≡ true
     pub parts : List (List ℕ)
     pub joins : r .got ≡ got ++ parts
@@ -105,33 +104,33 @@ module _ (board : Board) (block len : ℕ) (sums : Sums) (f lent : List ℕ) whe
   answer p = take 1024 (drop p stream)
 
   after-answer : ℕ → Session
-  after-answer p = inState board block len atUpload noDownload (p + length (answer p)) sums
+  after-answer p = inState base block len atUpload noDownload (p + length (answer p)) sums
 
   module _
       (room : 1024 ≤ length lent)
-      (split : splitRule board ≡ true)
-      (legal : inApplication board block len ≡ true)
-      (sized : length f ≡ startOf (board .b .0))
+      (split : splitRule (base .board) ≡ true)
+      (legal : inApplication (base .board) block len ≡ true)
+      (sized : length f ≡ startOf (base .board .b .0))
       (whole : length stream ≡ 8 + len) where
-    at-first : Reading (inState board block len atIdle noDownload 0 sums) 0
+    at-first : Reading (inState base block len atIdle noDownload 0 sums) 0
     unfolding placeOf uploadingAt allowedOf
     at-first =
         record {
-          ready = record { fit = idle-fit board block len split legal sums; sized = sized };
+          ready = record { fit = idle-fit base block len split legal sums; sized = sized };
           allowed = refl;
           stands = refl;
-          streams = image-streamed board block len f 0;
+          streams = image-streamed (base .board) block len f 0;
           goes-on = λ q. refl;
         }
 
-    further : (p : ℕ) → p ≤ 8 + len → Reading (inState board block len atUpload noDownload p sums) p
+    further : (p : ℕ) → p ≤ 8 + len → Reading (inState base block len atUpload noDownload p sums) p
     unfolding placeOf uploadingAt allowedOf
     further p h =
         record {
-          ready = record { fit = upload-fit board block len split legal sums p h; sized = sized };
+          ready = record { fit = upload-fit base block len split legal sums p h; sized = sized };
           allowed = refl;
           stands = refl;
-          streams = image-streamed board block len f p;
+          streams = image-streamed (base .board) block len f p;
           goes-on = λ q. refl;
         }
 
@@ -141,13 +140,13 @@ module _ (board : Board) (block len : ℕ) (sums : Sums) (f lent : List ℕ) whe
 
     last-answer :
         (p : ℕ) (got : List (List ℕ)) → p ≤ 8 + len → length (answer p) < 1024
-        → Gathered (run (siteOf (after-answer p) f) (ends (keep got (answer p)))) got (drop p stream)
+        → Gathered (run stepOf (siteOf (after-answer p) f) (ends (keep got (answer p)))) got (drop p stream)
     unfolding run answer after-answer
     last-answer p got h short =
         let l = answer-length p in
         let d = length-drop p stream in
         record {
-          stops = ap (λ (q : ℕ). siteOf (inState board block len atUpload noDownload q sums) f) (omega arith);
+          stops = ap (λ (q : ℕ). siteOf (inState base block len atUpload noDownload q sums) f) (omega arith);
           taken = refl;
           parts = keep [] (answer p);
           joins = keep-joins got (answer p);
@@ -184,10 +183,10 @@ module _ (board : Board) (block len : ℕ) (sums : Sums) (f lent : List ℕ) whe
     by-length :
         (t : Bool) (n p : ℕ) (got : List (List ℕ)) → ltb (length (answer p)) 1024 ≡ t → p ≤ 8 + len
         → (length (answer p) ≡ 1024
-        → Gathered (run (siteOf (after-answer p) f) (gathers lent n (keep got (answer p)))) (keep got (answer p))
+        → Gathered (run stepOf (siteOf (after-answer p) f) (gathers lent n (keep got (answer p)))) (keep got (answer p))
         (drop (p + length (answer p)) stream))
         → Gathered
-        (run (siteOf (after-answer p) f) (cond t (ends (keep got (answer p))) (gathers lent n (keep got (answer p)))))
+        (run stepOf (siteOf (after-answer p) f) (cond t (ends (keep got (answer p))) (gathers lent n (keep got (answer p)))))
         got
         (drop p stream)
     by-length true n p got e h then = last-answer p got h (ltb-true _ _ e)
@@ -199,7 +198,7 @@ module _ (board : Board) (block len : ℕ) (sums : Sums) (f lent : List ℕ) whe
 
     gathered :
         (n p : ℕ) (got : List (List ℕ)) (s : Session) → Reading s p → p ≤ 8 + len → 8 + len < p + n * 1024
-        → Gathered (run (siteOf s f) (gathers lent n got)) got (drop p stream)
+        → Gathered (run stepOf (siteOf s f) (gathers lent n got)) got (drop p stream)
     unfolding gathers answer after-answer
     gathered zero p got s w h enough = absurd (omega arith)
     gathered (suc n) p got s w h enough =
@@ -214,6 +213,6 @@ module _ (board : Board) (block len : ℕ) (sums : Sums) (f lent : List ℕ) whe
         (further (p + length (answer p)) (omega arith)) (omega arith) (omega arith)))
 
     pub all-read :
-        Gathered (run (siteOf (inState board block len atIdle noDownload 0 sums) f) (gathers lent (answersOf (8 + len)) [])) []
-        (image board block len f)
-    all-read = gathered (answersOf (8 + len)) 0 [] (inState board block len atIdle noDownload 0 sums) at-first (omega arith) (omega arith)
+        Gathered (run stepOf (siteOf (inState base block len atIdle noDownload 0 sums) f) (gathers lent (answersOf (8 + len)) [])) []
+        (image (base .board) block len f)
+    all-read = gathered (answersOf (8 + len)) 0 [] (inState base block len atIdle noDownload 0 sums) at-first (omega arith) (omega arith)

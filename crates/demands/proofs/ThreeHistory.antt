@@ -27,10 +27,10 @@ use Rattle.command.specs.Download.{longAt, sumsAfter, wroteOf, infoOf, binOf}
 use Rattle.command.proofs.Laws.{ready-split, ready-within, ready-place, ready-range}
 use Rattle.loader.specs.Reply.{polled, getstatusOf, getstateOf, queryOf, answered}
 use Rattle.loader.specs.Upload.{uploadEnds, uploadingAt, uploadedOf, uploadOf}
-use Rattle.loader.specs.Step.{freshStart}
-use Rattle.demands.specs.Calls.{Call, Site, called, next, after}
+use Rattle.loader.specs.Step.{freshStart, startOutcome, stepOf}
+use Rattle.demands.specs.Calls.{sessionOf, begun, Call, Site, called, next, after}
 use Rattle.demands.specs.One.{Untouched, AllowedStart}
-use Rattle.demands.specs.Three.{begun, Held, History}
+use Rattle.demands.specs.Three.{Held, History}
 use Rattle.demands.proofs.Ways.{pick, every-way}
 use Rattle.demands.proofs.OneOutside.{outside-holds, piece-place}
 use Rattle.demands.proofs.OneFit.{stays-fit-holds, starts-fit-holds, started}
@@ -79,11 +79,12 @@ module _ (s : Session) (f : List ℕ) (r : Ready s f) (right : Summed s f) where
       (spliced-same f (startOf block) (blank (startOf count)) block (block + count) (omega arith) (omega arith) (omega arith))
 
 -- no call changes the board
-board-stays : (at : Site) (c : Call) → next at c .session .board ≡ at .session .board
-unfolding next called wroteOf infoOf binOf movedTo stallOf unfitOf faultOf resetOf freshOf polled getstatusOf getstateOf queryOf answered uploadOf uploadedOf uploadingAt
+board-stays : (at : Site) (c : Call) → next stepOf at c .session .board ≡ at .session .board
+unfolding next called wroteOf infoOf binOf movedTo stallOf unfitOf faultOf resetOf freshOf polled getstatusOf getstateOf queryOf
+    answered uploadOf uploadedOf uploadingAt
 board-stays at c =
     let s = at .session in
-    every-way s (at .flash) (c .setup) (c .bytes) (c .reply) (λ (l : Leaves). l .outcome .session .board ≡ s .board)
+    every-way s (at .flash) (c .setup) (c .bytes) (c .reply) (λ (l : Leaves). sessionOf l .board ≡ s .board)
     (record {
       unfits = λ _. refl;
       stalls = λ _ _. pick (λ (t : Session). t .board ≡ s .board) (eqb (s .phase .state .0) 10) _ _ (λ _. refl) (λ _. refl);
@@ -107,15 +108,16 @@ board-stays at c =
 -- a call keeps the sums right
 sums-stay :
     (at : Site) (c : Call) → Summed (at .session) (at .flash)
-    → Right (next at c .session .sums) (next at c .flash) (at .session .board .a .0) (appEnd (at .session .board))
-unfolding next called wroteOf infoOf binOf movedTo stallOf unfitOf faultOf resetOf freshOf polled getstatusOf getstateOf queryOf answered uploadOf uploadedOf uploadingAt
+    → Right (next stepOf at c .session .sums) (next stepOf at c .flash) (at .session .board .a .0) (appEnd (at .session .board))
+unfolding next called wroteOf infoOf binOf movedTo stallOf unfitOf faultOf resetOf freshOf polled getstatusOf getstateOf queryOf
+    answered uploadOf uploadedOf uploadingAt
 sums-stay at c right =
     let s = at .session in
     let f = at .flash in
     let d = c .bytes in
     let kept : Session → Type 0 = λ t. Right (t .sums) f (s .board .a .0) (appEnd (s .board)) in
     every-way s f (c .setup) d (c .reply)
-    (λ (l : Leaves). Right (l .outcome .session .sums) (l .flash) (s .board .a .0) (appEnd (s .board)))
+    (λ (l : Leaves). Right (sessionOf l .sums) (l .flash) (s .board .a .0) (appEnd (s .board)))
     (record {
       unfits = λ _. right;
       stalls = λ _ _. pick kept (eqb (s .phase .state .0) 10) _ _ (λ _. right) (λ _. right);
@@ -147,7 +149,7 @@ untouched-twice b f g h p q =
     }
 
 -- a call keeps all that a history holds
-held-next : (f : List ℕ) (b : Board) (at : Site) (c : Call) → Held f b at → Held f b (next at c)
+held-next : (f : List ℕ) (b : Board) (at : Site) (c : Call) → Held f b at → Held f b (next stepOf at c)
 held-next f b at c h =
     let own : Summed (at .session) (at .flash) =
     subst⁻¹ (λ (x : Board). Right (at .session .sums) (at .flash) (x .a .0) (appEnd x)) (h .board-kept) (h .sums-right)
@@ -156,19 +158,21 @@ held-next f b at c h =
       board-kept = board-stays at c ∙ h .board-kept;
       fit = stays-fit-holds at c (h .fit);
       sums-right =
-          subst (λ (x : Board). Right (next at c .session .sums) (next at c .flash) (x .a .0) (appEnd x)) (h .board-kept)
+          subst (λ (x : Board). Right (next stepOf at c .session .sums) (next stepOf at c .flash) (x .a .0) (appEnd x)) (h .board-kept)
           (sums-stay at c own);
       outside-kept =
-          untouched-twice b f (at .flash) (next at c .flash) (h .outside-kept)
-          (subst (λ (x : Board). Untouched x (at .flash) (next at c .flash)) (h .board-kept) (outside-holds at c));
+          untouched-twice b f (at .flash) (next stepOf at c .flash) (h .outside-kept)
+          (subst (λ (x : Board). Untouched x (at .flash) (next stepOf at c .flash)) (h .board-kept) (outside-holds at c));
     }
 
-pub held-after : (f : List ℕ) (b : Board) (at : Site) (calls : List Call) → Held f b at → Held f b (after at calls)
+pub held-after : (f : List ℕ) (b : Board) (at : Site) (calls : List Call) → Held f b at → Held f b (after stepOf at calls)
 unfolding after
 held-after f b at [] h = h
-held-after f b at (c ∷ cs) h = held-after f b (next at c) cs (held-next f b at c h)
+held-after f b at (c ∷ cs) h = held-after f b (next stepOf at c) cs (held-next f b at c h)
 
-pub held-begun : (f : List ℕ) (a b part0 part1 : ℕ) → AllowedStart f a b → Held f (boardOf a b part0 part1) (begun f a b part0 part1)
+pub held-begun :
+    (f : List ℕ) (a b part0 part1 : ℕ) → AllowedStart f a b
+    → Held f (boardOf a b part0 part1) (begun startOutcome f a b part0 part1)
 unfolding begun freshStart freshOf
 held-begun f a b part0 part1 h =
     let e = started f a b part0 part1 h in
@@ -181,6 +185,6 @@ held-begun f a b part0 part1 h =
       outside-kept = record { as-long = refl; as-before = λ k o. refl };
     }
 
-pub history-holds : History
+pub history-holds : History startOutcome stepOf
 history-holds f a b part0 part1 h calls =
-    held-after f (boardOf a b part0 part1) (begun f a b part0 part1) calls (held-begun f a b part0 part1 h)
+    held-after f (boardOf a b part0 part1) (begun startOutcome f a b part0 part1) calls (held-begun f a b part0 part1 h)

@@ -10,34 +10,37 @@ use Rattle.moves.specs.Moves.{movedTo}
 use Rattle.command.specs.Download.{allErased, sumsAfter, wroteOf, progOf, wellFormed, carriedOut, commandOf, pieceOf, dnloadOf}
 use Rattle.loader.specs.Reply.{answered, entered, polled, pollTime, getstatusOf}
 use Rattle.loader.specs.Step.{startable, freshStart, startOutcome, ready, served, stepOf}
-use Rattle.demands.specs.Calls.{Call, Site, called, next, after}
-use Rattle.demands.specs.Three.{begun, NamedRange, none, commandNames, tookDnload, mayChange, noteOf, notedAfter}
-use Rattle.demands.proofs.OneMet.{smallFlash, callOf}
+use Rattle.demands.specs.Calls.{begun, Call, Site, called, next, after}
+use Rattle.demands.specs.Three.{NamedRange, none, commandNames, tookDnload, mayChange, noteOf, notedAfter}
+use Rattle.demands.proofs.Small.{smallFlash, lent}
 
 -- PROG of two bytes in block 1, the first of them with it; a poll; the second byte
 abbrev pub prog : Call
-prog = callOf (0x21 ∷ 1 ∷ 0 ∷ 0 ∷ 0 ∷ 0 ∷ 9 ∷ 0 ∷ []) (1 ∷ 0 ∷ 1 ∷ 0 ∷ 2 ∷ 0 ∷ 0 ∷ 0 ∷ 7 ∷ [])
+prog = lent (0x21 ∷ 1 ∷ 0 ∷ 0 ∷ 0 ∷ 0 ∷ 9 ∷ 0 ∷ []) (1 ∷ 0 ∷ 1 ∷ 0 ∷ 2 ∷ 0 ∷ 0 ∷ 0 ∷ 7 ∷ [])
 
 abbrev pub poll : Call
-poll = callOf (0xA1 ∷ 3 ∷ 0 ∷ 0 ∷ 0 ∷ 0 ∷ 6 ∷ 0 ∷ []) []
+poll = lent (0xA1 ∷ 3 ∷ 0 ∷ 0 ∷ 0 ∷ 0 ∷ 6 ∷ 0 ∷ []) []
 
 abbrev pub piece : Call
-piece = callOf (0x21 ∷ 1 ∷ 0 ∷ 0 ∷ 0 ∷ 0 ∷ 1 ∷ 0 ∷ []) (9 ∷ [])
+piece = lent (0x21 ∷ 1 ∷ 0 ∷ 0 ∷ 0 ∷ 0 ∷ 1 ∷ 0 ∷ []) (9 ∷ [])
 
 unfoldable pub startSite : Site
-startSite = begun smallFlash 1 2 0 0
+startSite = begun startOutcome smallFlash 1 3 0 0
 
 -- before the piece
 unfoldable pub before : Site
-before = after startSite (prog ∷ poll ∷ [])
+before = after stepOf startSite (prog ∷ poll ∷ [])
 
 -- what is noted by then, what the piece may change, and a byte that it does change
 pub record Continues : Type 0 where
-  pub noted : notedAfter none startSite (prog ∷ poll ∷ []) ≡ record { at = 1024; size = 2 }
-  pub may : (r : NamedRange) → mayChange r (before .session) piece (called before piece) ≡ r
+  pub noted : notedAfter stepOf none startSite (prog ∷ poll ∷ []) ≡ record { at = 1024; size = 2 }
+  pub may : (r : NamedRange) → mayChange r (before .session) piece (called stepOf before piece) ≡ r
   pub erased-yet : getD (before .flash) 1025 0 ≡ 255
-  pub written : getD (next before piece .flash) 1025 0 ≡ 9
+  pub written : getD (next stepOf before piece .flash) 1025 0 ≡ 9
 
 pub only-named-met : Continues
-unfolding before startSite smallFlash begun blank range spliced firstIn searched appEnd streamLength wholeUpload freshOf fitOf formOf setupOf dataAsked allowedOf movedTo allErased sumsAfter wroteOf progOf wellFormed carriedOut commandOf pieceOf dnloadOf answered entered polled pollTime getstatusOf startable freshStart startOutcome ready served stepOf called next after commandNames tookDnload mayChange noteOf notedAfter
+unfolding before startSite begun blank range spliced firstIn searched appEnd streamLength wholeUpload freshOf fitOf formOf setupOf
+    dataAsked allowedOf movedTo allErased sumsAfter wroteOf progOf wellFormed carriedOut commandOf pieceOf dnloadOf answered
+    entered polled pollTime getstatusOf startable freshStart startOutcome ready served stepOf called next after commandNames
+    tookDnload mayChange noteOf notedAfter
 only-named-met = record { noted = refl; may = λ r. refl; erased-yet = refl; written = refl }

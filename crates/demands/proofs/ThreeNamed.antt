@@ -27,10 +27,10 @@ use Rattle.command.specs.Download.{longAt, wroteOf, infoOf, binOf}
 use Rattle.command.proofs.Laws.{ready-within, ready-range}
 use Rattle.loader.specs.Reply.{entered, polled, getstatusOf, getstateOf, queryOf, answered}
 use Rattle.loader.specs.Upload.{uploadEnds, uploadingAt, uploadedOf, uploadOf}
-use Rattle.loader.specs.Step.{freshStart}
-use Rattle.demands.specs.Calls.{Call, Site, called, next, after}
-use Rattle.demands.specs.One.{heard, AllowedStart}
-use Rattle.demands.specs.Three.{begun, NamedRange, none, NotNamed, progNames, eraseNames, commandNames, isDnload, tookDnload}
+use Rattle.loader.specs.Step.{freshStart, startOutcome, stepOf}
+use Rattle.demands.specs.Calls.{sessionOf, begun, heard, Call, Site, called, next, after}
+use Rattle.demands.specs.One.{AllowedStart}
+use Rattle.demands.specs.Three.{NamedRange, none, NotNamed, progNames, eraseNames, commandNames, isDnload, tookDnload}
 use Rattle.demands.specs.Three.{ChangesNamed, mayChange, noteOf, notedAfter, OnlyNamed}
 use Rattle.demands.proofs.Ways.{pick, every-way}
 use Rattle.demands.proofs.OneOutside.{piece-place}
@@ -93,7 +93,7 @@ pub record Covers (noted : NamedRange) (s : Session) : Type 0 where
   pub high : running (s .phase) ≡ true → s .down .place .0 + s .down .left ≤ noted .at + noted .size
 
 -- a call changes only what it may
-changes-named : (noted : NamedRange) (at : Site) (c : Call) → Covers noted (at .session) → ChangesNamed noted at c
+changes-named : (noted : NamedRange) (at : Site) (c : Call) → Covers noted (at .session) → ChangesNamed stepOf noted at c
 unfolding next called wroteOf infoOf binOf stallOf unfitOf faultOf resetOf getstatusOf getstateOf queryOf answered uploadOf erased
 changes-named noted at c covers k =
     let s = at .session in
@@ -193,8 +193,9 @@ wrote-covers r s f at bytes left low high = record { low = λ _. omega arith; hi
 -- what is noted covers the download after a call
 covers-next :
     (noted : NamedRange) (at : Site) (c : Call) → Covers noted (at .session)
-    → Covers (noteOf noted (at .session) c (called at c)) (next at c .session)
-unfolding next called wroteOf infoOf binOf movedTo stallOf unfitOf faultOf resetOf freshOf polled getstatusOf getstateOf queryOf answered uploadOf
+    → Covers (noteOf noted (at .session) c (called stepOf at c)) (next stepOf at c .session)
+unfolding next called wroteOf infoOf binOf movedTo stallOf unfitOf faultOf resetOf freshOf polled getstatusOf getstateOf queryOf
+    answered uploadOf
 covers-next noted at c covers =
     let s = at .session in
     let f = at .flash in
@@ -202,7 +203,7 @@ covers-next noted at c covers =
     let same : (l : Leaves) → tookDnload 2 s c l ≡ false → Covers (noteOf noted s c l) s =
     λ l e. covers-as _ _ _ (notes-same noted s c l e) covers
     in
-    every-way s f (c .setup) d (c .reply) (λ (l : Leaves). Covers (noteOf noted s c l) (l .outcome .session))
+    every-way s f (c .setup) d (c .reply) (λ (l : Leaves). Covers (noteOf noted s c l) (sessionOf l))
     (record {
       unfits = λ _. same _ (untaken noted s c _ (λ (h : _≡_ {A = ℕ} 2 0). omega arith));
       stalls = λ _ _. stopped _ _ (stall-stops s);
@@ -239,18 +240,19 @@ covers-next noted at c covers =
 
 covers-after :
     (noted : NamedRange) (at : Site) (calls : List Call) → Covers noted (at .session)
-    → Covers (notedAfter noted at calls) (after at calls .session)
+    → Covers (notedAfter stepOf noted at calls) (after stepOf at calls .session)
 unfolding notedAfter after
 covers-after noted at [] h = h
-covers-after noted at (c ∷ cs) h = covers-after _ (next at c) cs (covers-next noted at c h)
+covers-after noted at (c ∷ cs) h = covers-after _ (next stepOf at c) cs (covers-next noted at c h)
 
 -- a start runs no download
-start-stops : (f : List ℕ) (a b part0 part1 : ℕ) → AllowedStart f a b → running (begun f a b part0 part1 .session .phase) ≡ false
+start-stops :
+    (f : List ℕ) (a b part0 part1 : ℕ) → AllowedStart f a b → running (begun startOutcome f a b part0 part1 .session .phase) ≡ false
 unfolding begun freshStart freshOf
 start-stops f a b part0 part1 h = ap (λ (o : Outcome). running (o .session .phase)) (started f a b part0 part1 h)
 
-pub only-named-holds : OnlyNamed
+pub only-named-holds : OnlyNamed startOutcome stepOf
 only-named-holds f a b part0 part1 h calls c =
-    let at = begun f a b part0 part1 in
-    changes-named (notedAfter none at calls) (after at calls) c
+    let at = begun startOutcome f a b part0 part1 in
+    changes-named (notedAfter stepOf none at calls) (after stepOf at calls) c
     (covers-after none at calls (stopped none (at .session) (start-stops f a b part0 part1 h)))

@@ -16,6 +16,7 @@ use Rattle.moves.specs.declared.Answer.{Answer}
 use Rattle.moves.specs.Answers.{done}
 use Rattle.moves.specs.Moves.{movedTo, faultOf, resetOf}
 use Rattle.command.specs.Download.{progOf, readOf, checkOf, eraseOf, infoOf, prefixFor, binOf, carriedOut, pieceOf}
+use Rattle.loader.specs.Step.{stepOf}
 use Rattle.demands.specs.Calls.{Call, Site}
 use Rattle.demands.specs.Asked.{Asks}
 use Rattle.demands.specs.Two.{Moves}
@@ -27,14 +28,14 @@ use Rattle.demands.proofs.TwoDownloads.{legal-in, illegal-out, piece-le
 use Rattle.demands.proofs.TwoWorks.{legal-fits}
 
 module _ (at : Site) (c : Call) (block len : ℕ) (k : Commanded at c 2 8) (range : Named c block len) where
-  read-done : Legal at block len → Chooses at c 0 3 0 (at .session .up .«prefix») block len
+  read-done : Legal at block len → Chooses stepOf at c 0 3 0 (at .session .up .«prefix») block len
   unfolding carriedOut readOf movedTo
   read-done legal =
-      so-chooses at c Answer.Taken 3 0 (at .session .up .«prefix») block len _ refl
+      so-chooses at c Answer.Taken 3 0 (at .session .up .«prefix») block len _ refl refl refl refl refl
       (command-leaves at c 2 8 k (omega arith) (omega arith) (omega arith) (inr refl)
       ∙ rw (range .block-is, range .len-is, legal-in at block len legal))
 
-  read-range : (Legal at block len → ⊥) → Moves at c 3 [] 10 0x08
+  read-range : (Legal at block len → ⊥) → Moves stepOf at c 3 [] 10 0x08
   unfolding carriedOut readOf faultOf
   read-range none =
       so-moves at c Answer.Faulted [] 10 0x08
@@ -42,7 +43,7 @@ module _ (at : Site) (c : Call) (block len : ℕ) (k : Commanded at c 2 8) (rang
       ∙ rw (range .block-is, range .len-is, illegal-out at block len none))
 
 module _ (at : Site) (c : Call) (block len : ℕ) (k : Commanded at c 3 8) (range : Named c block len) where
-  check-done : Legal at block len → Blank at block len → Moves at c 0 [] 3 0
+  check-done : Legal at block len → Blank at block len → Moves stepOf at c 0 [] 3 0
   unfolding carriedOut checkOf
   check-done legal blank =
       so-moves at c Answer.Taken [] 3 0
@@ -54,14 +55,14 @@ module _ (at : Site) (c : Call) (block len : ℕ) (k : Commanded at c 3 8) (rang
         bytes-erased (at .flash) block len (legal-fits at c block len (k .asks .prepared) legal) blank,
       ))
 
-  check-range : (Legal at block len → ⊥) → Moves at c 3 [] 10 0x08
+  check-range : (Legal at block len → ⊥) → Moves stepOf at c 3 [] 10 0x08
   unfolding carriedOut checkOf faultOf
   check-range none =
       so-moves at c Answer.Faulted [] 10 0x08
       (command-leaves at c 3 8 k (omega arith) (omega arith) (omega arith) (inr refl)
       ∙ rw (range .block-is, range .len-is, illegal-out at block len none))
 
-  check-unerased : Legal at block len → NotBlank at block len → Moves at c 3 [] 10 0x05
+  check-unerased : Legal at block len → NotBlank at block len → Moves stepOf at c 3 [] 10 0x05
   unfolding carriedOut checkOf faultOf
   check-unerased legal some =
       so-moves at c Answer.Faulted [] 10 0x05
@@ -73,7 +74,9 @@ module _ (at : Site) (c : Call) (block len : ℕ) (k : Commanded at c 3 8) (rang
         not-erased (at .flash) block len (legal-fits at c block len (k .asks .prepared) legal) (some .0) (some .1) (some .2),
       ))
 
-erase-range : (at : Site) (c : Call) (block count : ℕ) → Commanded at c 4 8 → Counted c block count → (Legal at block (startOf count) → ⊥) → Moves at c 3 [] 10 0x08
+erase-range :
+    (at : Site) (c : Call) (block count : ℕ) → Commanded at c 4 8 → Counted c block count → (Legal at block (startOf count) → ⊥)
+    → Moves stepOf at c 3 [] 10 0x08
 unfolding carriedOut eraseOf faultOf
 erase-range at c block count k range none =
     so-moves at c Answer.Faulted [] 10 0x08
@@ -81,35 +84,47 @@ erase-range at c block count k range none =
     ∙ rw (range .block-is, range .count-is, illegal-out at block (startOf count) none))
 
 module _ (at : Site) (c : Call) where
-  info-done : Commanded at c 5 8 → Chooses at c 0 3 1 (at .session .up .«prefix») (at .session .up .first .0) (at .session .up .len)
+  info-done : Commanded at c 5 8 → Chooses stepOf at c 0 3 1 (at .session .up .«prefix») (at .session .up .first .0) (at .session .up .len)
   unfolding carriedOut infoOf movedTo
   info-done k =
-      so-chooses at c Answer.Taken 3 1 (at .session .up .«prefix») (at .session .up .first .0) (at .session .up .len) _ refl
+      so-chooses at c Answer.Taken 3 1 (at .session .up .«prefix») (at .session .up .first .0) (at .session .up .len) _
+      refl refl refl refl refl
       (command-leaves at c 5 8 k (omega arith) (omega arith) (omega arith) (inr refl))
 
-  bin-off : Commanded at c 6 8 → (getD (c .bytes) 1 0 ≡ 0 → ⊥) → Chooses at c 0 3 (at .session .up .choice) 0 (at .session .up .first .0) (at .session .up .len)
+  bin-off :
+      Commanded at c 6 8 → (getD (c .bytes) 1 0 ≡ 0 → ⊥)
+      → Chooses stepOf at c 0 3 (at .session .up .choice) 0 (at .session .up .first .0) (at .session .up .len)
   unfolding carriedOut binOf prefixFor movedTo
   bin-off k ne =
-      so-chooses at c Answer.Taken 3 (at .session .up .choice) 0 (at .session .up .first .0) (at .session .up .len) _ refl
+      so-chooses at c Answer.Taken 3 (at .session .up .choice) 0 (at .session .up .first .0) (at .session .up .len) _
+      refl refl refl refl refl
       (command-leaves at c 6 8 k (omega arith) (omega arith) (omega arith) (inr refl) ∙ rw (ne-eqb (getD (c .bytes) 1 0) 0 ne))
 
-  bin-on : Commanded at c 6 8 → getD (c .bytes) 1 0 ≡ 0 → Chooses at c 0 3 (at .session .up .choice) 1 (at .session .up .first .0) (at .session .up .len)
+  bin-on :
+      Commanded at c 6 8 → getD (c .bytes) 1 0 ≡ 0
+      → Chooses stepOf at c 0 3 (at .session .up .choice) 1 (at .session .up .first .0) (at .session .up .len)
   unfolding carriedOut binOf prefixFor movedTo
   bin-on k e =
-      so-chooses at c Answer.Taken 3 (at .session .up .choice) 1 (at .session .up .first .0) (at .session .up .len) _ refl
+      so-chooses at c Answer.Taken 3 (at .session .up .choice) 1 (at .session .up .first .0) (at .session .up .len) _
+      refl refl refl refl refl
       (command-leaves at c 6 8 k (omega arith) (omega arith) (omega arith) (inr refl) ∙ rw (eq-eqb (getD (c .bytes) 1 0) 0 e))
 
-  reset-done : Commanded at c 7 8 → Chooses at c 4 2 0 1 (at .session .board .a .0) ((appEnd (at .session .board) - at .session .board .a .0) * 1024)
+  reset-done :
+      Commanded at c 7 8
+      → Chooses stepOf at c 4 2 0 1 (at .session .board .a .0) ((appEnd (at .session .board) - at .session .board .a .0) * 1024)
   unfolding carriedOut resetOf freshOf wholeUpload
   reset-done k =
-      so-chooses at c Answer.ResetAsked 2 0 1 (at .session .board .a .0) ((appEnd (at .session .board) - at .session .board .a .0) * 1024) _ refl
+      so-chooses at c Answer.ResetAsked 2 0 1 (at .session .board .a .0) ((appEnd (at .session .board) - at .session .board .a .0) * 1024) _
+      refl refl refl refl refl
       (command-leaves at c 7 8 k (omega arith) (omega arith) (omega arith) (inr refl))
 
-  no-command : (code n : ℕ) → Commanded at c code n → NoCommand code n → Moves at c 3 [] 10 0x0B
+  no-command : (code n : ℕ) → Commanded at c code n → NoCommand code n → Moves stepOf at c 3 [] 10 0x0B
   unfolding faultOf
   no-command code n k none = so-moves at c Answer.Faulted [] 10 0x0B (no-command-leaves at c code n k none)
 
-  piece-data : (n : ℕ) → Asks at c Request.Dnload n → at .session .phase .state .0 ≡ 5 → at .session .down .left < n → Moves at c 3 [] 10 0x08
+  piece-data :
+      (n : ℕ) → Asks at c Request.Dnload n → at .session .phase .state .0 ≡ 5 → at .session .down .left < n
+      → Moves stepOf at c 3 [] 10 0x08
   unfolding pieceOf faultOf
   piece-data n k loading lt =
       let is = asks-brings at c n k in
@@ -124,7 +139,7 @@ module _ (at : Site) (c : Call) (block len n : ℕ) (k : Commanded at c 1 n) whe
   first-long : length (drop 8 (c .bytes)) ≡ n - 8
   first-long = length-drop 8 (c .bytes) ∙ ap (λ (m : ℕ). m - 8) (asks-brings at c n (k .asks))
 
-  prog-range : 8 ≤ n → Named c block len → (Legal at block len → ⊥) → Moves at c 3 [] 10 0x08
+  prog-range : 8 ≤ n → Named c block len → (Legal at block len → ⊥) → Moves stepOf at c 3 [] 10 0x08
   unfolding carriedOut progOf faultOf
   prog-range long range none =
       so-moves at c Answer.Faulted [] 10 0x08
@@ -132,19 +147,21 @@ module _ (at : Site) (c : Call) (block len n : ℕ) (k : Commanded at c 1 n) whe
       ∙ rw (range .block-is, range .len-is, illegal-out at block len none))
 
   -- in the application or not: 0x08 either way
-  too-much : 8 + len < n → (t : Bool) → inApplication (at .session .board) block len ≡ t → progOf (at .session) (at .flash) block len (drop 8 (c .bytes)) ≡ done (faultOf (at .session) address) (at .flash)
+  too-much :
+      8 + len < n → (t : Bool) → inApplication (at .session .board) block len ≡ t
+      → progOf (at .session) (at .flash) block len (drop 8 (c .bytes)) ≡ done (faultOf (at .session) address) (at .flash)
   unfolding progOf
   too-much lt true e = rw (e, lt-leb (length (drop 8 (c .bytes))) len (omega (arith, first-long, lt)))
   too-much lt false e = rw e
 
-  prog-data : Named c block len → 8 + len < n → Moves at c 3 [] 10 0x08
+  prog-data : Named c block len → 8 + len < n → Moves stepOf at c 3 [] 10 0x08
   unfolding carriedOut faultOf
   prog-data range lt =
       so-moves at c Answer.Faulted [] 10 0x08
       (command-leaves at c 1 n k (omega arith) (omega arith) (omega arith) (inl refl)
       ∙ rw (range .block-is, range .len-is, too-much lt (inApplication (at .session .board) block len) refl))
 
-  prog-unerased : 8 ≤ n → Named c block len → Legal at block len → n ≤ 8 + len → NotBlank at block len → Moves at c 3 [] 10 0x05
+  prog-unerased : 8 ≤ n → Named c block len → Legal at block len → n ≤ 8 + len → NotBlank at block len → Moves stepOf at c 3 [] 10 0x05
   unfolding carriedOut progOf faultOf
   prog-unerased long range legal few some =
       so-moves at c Answer.Faulted [] 10 0x05
@@ -157,7 +174,7 @@ module _ (at : Site) (c : Call) (block len n : ℕ) (k : Commanded at c 1 n) whe
         not-erased (at .flash) block len (legal-fits at c block len (k .asks .prepared) legal) (some .0) (some .1) (some .2),
       ))
 
-pub Commands-hold : Commands
+pub Commands-hold : Commands stepOf
 Commands-hold at c =
     record {
       read = read-done at c;

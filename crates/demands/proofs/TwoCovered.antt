@@ -128,7 +128,8 @@ module _ (at : Site) (c : Call) (n : ℕ) (k : Asks at c Request.Dnload n) where
     eight-row eight n1 (suc (suc (suc (suc (suc zero))))) e = DnloadRow.info (alone 5 eight e)
     eight-row eight n1 (suc (suc (suc (suc (suc (suc zero)))))) e = bin-row (alone 6 eight e)
     eight-row eight n1 (suc (suc (suc (suc (suc (suc (suc zero))))))) e = DnloadRow.reset (alone 7 eight e)
-    eight-row eight n1 (suc (suc (suc (suc (suc (suc (suc (suc m)))))))) e = DnloadRow.no-command _ n (told _ e) (unknown (inr (omega arith)))
+    eight-row eight n1 (suc (suc (suc (suc (suc (suc (suc (suc m)))))))) e =
+        DnloadRow.no-command _ n (told _ e) (unknown (inr (omega arith)))
 
     command-row : DnloadRow at c
     command-row =

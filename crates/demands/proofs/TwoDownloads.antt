@@ -16,7 +16,7 @@ use Rattle.request.specs.declared.Request.{Request}
 use Rattle.moves.specs.Answers.{leaves}
 use Rattle.moves.specs.Moves.{faultOf}
 use Rattle.command.specs.Download.{wellFormed, carriedOut, commandOf, pieceOf, dnloadOf}
-use Rattle.loader.specs.Step.{served, withReply}
+use Rattle.loader.specs.Step.{served, withReply, stepOf}
 use Rattle.demands.specs.Calls.{Call, Site, called}
 use Rattle.demands.specs.Asked.{Asks}
 use Rattle.demands.specs.TwoCommands.{Commanded, Legal, NoCommand}
@@ -48,7 +48,7 @@ illegal-out at block len none = go (inApplication (at .session .board) block len
 -- a piece of data, or the close
 pub piece-leaves :
     (at : Site) (c : Call) (n : ℕ) → Asks at c Request.Dnload n → at .session .phase .state .0 ≡ 5
-    → called at c ≡ withReply (pieceOf (at .session) (at .flash) (c .bytes)) (c .reply)
+    → called stepOf at c ≡ withReply (pieceOf (at .session) (at .flash) (c .bytes)) (c .reply)
 unfolding served dnloadOf
 piece-leaves at c n k e = asks-served at c Request.Dnload n k (inr e) ∙ rw e
 
@@ -72,7 +72,7 @@ third-false false u v = refl
 
 -- a command
 module _ (at : Site) (c : Call) (code n : ℕ) (k : Commanded at c code n) where
-  commanded : called at c ≡ withReply (commandOf (at .session) (at .flash) (c .bytes)) (c .reply)
+  commanded : called stepOf at c ≡ withReply (commandOf (at .session) (at .flash) (c .bytes)) (c .reply)
   unfolding served dnloadOf
   commanded = asks-served at c Request.Dnload n (k .asks) (inl (k .idle, k .some)) ∙ rw (k .idle)
 
@@ -85,7 +85,7 @@ module _ (at : Site) (c : Call) (code n : ℕ) (k : Commanded at c code n) where
 
   pub command-leaves :
       8 ≤ n → 1 ≤ code → code ≤ 7 → (code ≡ 1) ⊎ (n ≡ 8)
-      → called at c ≡ withReply (carriedOut code (at .session) (at .flash) (c .bytes)) (c .reply)
+      → called stepOf at c ≡ withReply (carriedOut code (at .session) (at .flash) (c .bytes)) (c .reply)
   unfolding commandOf
   command-leaves long low high alone = commanded ∙ rw (well-formed long low high alone, k .command)
 
@@ -99,6 +99,6 @@ module _ (at : Site) (c : Call) (code n : ℕ) (k : Commanded at c code n) where
       rw (k .command, ne-eqb code 1 ne, asks-brings at c n (k .asks), ne-eqb n 8 (λ e. omega (arith, e, lt)))
       (last-false (leb 8 n && leb 1 code && leb code 7))
 
-  pub no-command-leaves : NoCommand code n → called at c ≡ leaves (faultOf (at .session) vendor) (at .flash) (c .reply)
+  pub no-command-leaves : NoCommand code n → called stepOf at c ≡ leaves (faultOf (at .session) vendor) (at .flash) (c .reply)
   unfolding commandOf
   no-command-leaves none = commanded ∙ rw (ill-formed none)

@@ -10,23 +10,26 @@ use lib.ListN.{length}
 use borrow.Author.Tests.{ne-eqb, eqb-true, eqb-false, not-true, le-leb}
 use Rattle.session.specs.Codes.{knownState}
 use Rattle.session.specs.Fit.{OneOfSix}
-use Rattle.session.proofs.Laws.{fit-facts, cases-state}
+use Rattle.session.proofs.Laws.{cases-state}
 use Rattle.session.proofs.Tests.{left-of, right-of, either}
 use Rattle.moves.specs.Answers.{leaves}
 use Rattle.moves.specs.Moves.{stallOf}
 use Rattle.request.specs.Request.{wordAt, setupOf, hasForm, inForm, formOf, requestOf, wLength, allowedOf}
 use Rattle.request.specs.declared.Request.{Request}
 use Rattle.request.proofs.Laws.{form-right, form-facts, dnload-asked}
-use Rattle.loader.specs.Step.{served}
+use Rattle.loader.specs.Step.{served, stepOf}
 use Rattle.demands.specs.Calls.{Call, Site, called}
 use Rattle.demands.specs.Asked.{stateOf, Prepared, Says, Form, Allowed, Asks, NoRequest}
 use Rattle.demands.specs.Asked.Form.{dnload, upload, getstatus, clrstatus, getstate, abort, query}
+use Rattle.demands.specs.TwoCommands.{Covered}
 use Rattle.demands.proofs.Asked.{setup-read, prepared-asked}
 use Rattle.demands.proofs.TwoLaws.{sound-served, sound-stalled}
 
 module _ (setup : List ℕ) (eight : length setup ≡ 8) where
   -- what the parts of eight setup bytes are
-  said : (kind number n : ℕ) → Says setup kind number n → setupOf setup ≡ record { kind = kind; number = number; value = wordAt setup 2; index = 0; length = n }
+  said :
+      (kind number n : ℕ) → Says setup kind number n → setupOf setup
+      ≡ record { kind = kind; number = number; value = wordAt setup 2; index = 0; length = n }
   said kind number n s = setup-read setup eight ∙ rw (s .typed, s .numbered, s .no-index, s .long)
 
   pub form-request : (r : Request) (n : ℕ) → Form setup n r → requestOf setup ≡ r
@@ -109,7 +112,8 @@ told-allowed Request.Dnload n state e =
     inl (eqb-true state 2 (left-of (eqb state 2) (not (eqb n 0)) h), omega arith))
     (λ h. inr (eqb-true state 5 h))
     (either first (eqb state 5) e)
-told-allowed Request.Upload n state e = ⊎-elim (λ h. inl (eqb-true state 2 h)) (λ h. inr (eqb-true state 9 h)) (either (eqb state 2) (eqb state 9) e)
+told-allowed Request.Upload n state e =
+    ⊎-elim (λ h. inl (eqb-true state 2 h)) (λ h. inr (eqb-true state 9 h)) (either (eqb state 2) (eqb state 9) e)
 told-allowed Request.GetStatus n state e = tt
 told-allowed Request.ClrStatus n state e = eqb-true state 10 e
 told-allowed Request.GetState n state e = tt
@@ -120,24 +124,25 @@ told-allowed Request.Nothing n state e = absurd (false≢true e)
 -- what an allowed request in form leaves
 pub asks-served :
     (at : Site) (c : Call) (r : Request) (n : ℕ) → Asks at c r n → Allowed r n (at .session .phase .state .0)
-    → called at c ≡ served r (at .session) (at .flash) n (c .bytes) (c .reply)
+    → called stepOf at c ≡ served r (at .session) (at .flash) n (c .bytes) (c .reply)
 asks-served at c r n k a =
     let s = at .session in
     let is = form-request (c .setup) (k .prepared .setup-bytes) r n (k .form) in
     let long = form-length (c .setup) (k .prepared .setup-bytes) r n (k .form) in
-    let told = allowed-told r n (s .phase .state .0) (fit-facts s (k .prepared .rules) .state) a in
+    let told = allowed-told r n (s .phase .state .0) (k .prepared .rules .state) a in
     sound-served at c (k .prepared) (ap₂ (λ (x : Request) (m : ℕ). allowedOf x m (s .phase .state .0)) is long ∙ told)
     ∙ ap₂ (λ (x : Request) (m : ℕ). served x s (at .flash) m (c .bytes) (c .reply)) is long
 
 -- what no allowed request in form is leaves
 pub asks-stalled :
-    (at : Site) (c : Call) → Prepared at c → NoRequest at c → called at c ≡ leaves (stallOf (at .session)) (at .flash) (c .reply)
-asks-stalled at c k none = go (requestOf (c .setup)) refl (allowedOf (requestOf (c .setup)) (wLength (c .setup)) (at .session .phase .state .0)) refl
+    (at : Site) (c : Call) → Prepared at c → NoRequest at c → called stepOf at c ≡ leaves (stallOf (at .session)) (at .flash) (c .reply)
+asks-stalled at c k none =
+    go (requestOf (c .setup)) refl (allowedOf (requestOf (c .setup)) (wLength (c .setup)) (at .session .phase .state .0)) refl
   where
     go :
         (r : Request) → requestOf (c .setup) ≡ r
         → (t : Bool) → allowedOf (requestOf (c .setup)) (wLength (c .setup)) (at .session .phase .state .0) ≡ t
-        → called at c ≡ leaves (stallOf (at .session)) (at .flash) (c .reply)
+        → called stepOf at c ≡ leaves (stallOf (at .session)) (at .flash) (c .reply)
     go r e false h = sound-stalled at c k h
     go r e true h =
         let told = told-allowed r (wLength (c .setup)) (at .session .phase .state .0) (rw e at h) in
@@ -151,16 +156,18 @@ asks-brings at c n k =
     ∙ form-length (c .setup) (k .prepared .setup-bytes) Request.Dnload n (k .form)
 
 -- a prepared call that the table does not allow is no request
-pub no-request : (at : Site) (c : Call) → Prepared at c → allowedOf (requestOf (c .setup)) (wLength (c .setup)) (stateOf at) ≡ false → NoRequest at c
+pub no-request :
+    (at : Site) (c : Call) → Prepared at c → allowedOf (requestOf (c .setup)) (wLength (c .setup)) (stateOf at) ≡ false
+    → NoRequest at c
 no-request at c k h x n form a =
     let is = form-request (c .setup) (k .setup-bytes) x n form in
     let long = form-length (c .setup) (k .setup-bytes) x n form in
-    let yes = allowed-told x n (stateOf at) (fit-facts (at .session) (k .rules) .state) a in
+    let yes = allowed-told x n (stateOf at) (k .rules .state) a in
     false≢true (sym h ∙ ap₂ (λ (y : Request) (m : ℕ). allowedOf y m (stateOf at)) is long ∙ yes)
 
 -- a prepared call asks for an allowed request, or for none
-pub asks-or-refused : (at : Site) (c : Call) → Prepared at c → ((r : Request) × (n : ℕ) × Asks at c r n × Allowed r n (stateOf at)) ⊎ NoRequest at c
-asks-or-refused at c k = go (requestOf (c .setup)) refl (allowedOf (requestOf (c .setup)) (wLength (c .setup)) (stateOf at)) refl
+pub Covered-holds : Covered
+Covered-holds at c k = go (requestOf (c .setup)) refl (allowedOf (requestOf (c .setup)) (wLength (c .setup)) (stateOf at)) refl
   where
     go :
         (r : Request) → requestOf (c .setup) ≡ r → (t : Bool) → allowedOf (requestOf (c .setup)) (wLength (c .setup)) (stateOf at) ≡ t

@@ -5,7 +5,7 @@ use Rattle.moves.specs.Answers.{Leaves, leaves}
 use Rattle.moves.specs.Moves.{stallOf}
 use Rattle.request.specs.Request.{requestOf, wLength, allowedOf}
 use Rattle.loader.specs.Step.{served, stepOf}
-use Rattle.demands.specs.Calls.{Call, Site, called, next}
+use Rattle.demands.specs.Calls.{sessionOf, Call, Site, called, next}
 use Rattle.demands.specs.Asked.{Prepared}
 use Rattle.demands.proofs.Asked.{prepared-ready}
 
@@ -13,18 +13,20 @@ module _ (at : Site) (c : Call) (k : Prepared at c) where
   -- an allowed request is served
   pub sound-served :
       allowedOf (requestOf (c .setup)) (wLength (c .setup)) (at .session .phase .state .0) ≡ true
-      → called at c ≡ served (requestOf (c .setup)) (at .session) (at .flash) (wLength (c .setup)) (c .bytes) (c .reply)
+      → called stepOf at c ≡ served (requestOf (c .setup)) (at .session) (at .flash) (wLength (c .setup)) (c .bytes) (c .reply)
   unfolding called stepOf
   sound-served e = rw (prepared-ready at c k, e)
 
   -- any other is stalled
   pub sound-stalled :
       allowedOf (requestOf (c .setup)) (wLength (c .setup)) (at .session .phase .state .0) ≡ false
-      → called at c ≡ leaves (stallOf (at .session)) (at .flash) (c .reply)
+      → called stepOf at c ≡ leaves (stallOf (at .session)) (at .flash) (c .reply)
   unfolding called stepOf
   sound-stalled e = rw (prepared-ready at c k, e)
 
 -- the site after a call, from what the call leaves
-pub next-from : (at : Site) (c : Call) (left : Leaves) → called at c ≡ left → next at c ≡ record { session = left .outcome .session; flash = left .flash }
+pub next-from :
+    (at : Site) (c : Call) (left : Leaves) → called stepOf at c ≡ left → next stepOf at c
+    ≡ record { session = sessionOf left; flash = left .flash }
 unfolding next
 next-from at c left e = rw e

@@ -33,7 +33,7 @@ module _ (flash : List ℕ) (a b part0 part1 : ℕ) where
       rw (not-started flash a b part0 part1 none)
       (record { answer = refl; count = refl; board = refl; phase = refl; down = refl; up = refl; sums = refl })
 
-pub Starts-hold : Starts
+pub Starts-hold : Starts startOutcome
 Starts-hold = record { taken = taken; refused = refused }
 
 -- a start that is taken, and one whose flash is a block short

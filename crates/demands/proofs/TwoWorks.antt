@@ -15,13 +15,13 @@ use Rattle.session.specs.Codes.{idle, downloadIdle}
 use Rattle.session.specs.Session.{appEnd, downOf, noDownload, withSums}
 use Rattle.session.specs.Rules.{running}
 use Rattle.session.specs.declared.Session.{Session}
-use Rattle.session.proofs.Laws.{fit-facts, end-in-flash}
+use Rattle.session.proofs.Laws.{end-in-flash}
 use Rattle.request.specs.declared.Request.{Request}
 use Rattle.moves.specs.declared.Answer.{Answer}
 use Rattle.moves.specs.Answers.{leaves}
 use Rattle.moves.specs.Moves.{movedTo, toSync, takenOf}
 use Rattle.command.specs.Download.{sumsAfter, wroteOf, progOf, eraseOf, carriedOut, pieceOf}
-use Rattle.loader.specs.Step.{withReply}
+use Rattle.loader.specs.Step.{withReply, stepOf}
 use Rattle.demands.specs.Calls.{Call, Site, called}
 use Rattle.demands.specs.Asked.{Prepared, Asks}
 use Rattle.demands.specs.TwoCommands.{Commanded, Named, Counted, Legal, Blank, EraseDone, EraseWorks, BytesDone, ProgramWorks}
@@ -34,18 +34,23 @@ use Rattle.demands.proofs.TwoDownloads.{legal-in, command-leaves, piece
 pub legal-fits : (at : Site) (c : Call) (block len : ℕ) → Prepared at c → Legal at block len → startOf block + len ≤ length (at .flash)
 legal-fits at c block len k l = omega (arith, l .to, end-in-flash (at .session .board), k .flash-length)
 
-module _ (at : Site) (c : Call) (block count : ℕ) (k : Commanded at c 4 8) (range : Counted c block count) (legal : Legal at block (startOf count)) where
+module _
+    (at : Site) (c : Call) (block count : ℕ) (k : Commanded at c 4 8) (range : Counted c block count)
+    (legal : Legal at block (startOf count)) where
   erase-sums : Sums
   erase-sums =
-      refreshed (at .session .sums) (erased (at .flash) block count) (at .session .board .a .0) (appEnd (at .session .board)) block (block + count)
+      refreshed (at .session .sums) (erased (at .flash) block count) (at .session .board .a .0) (appEnd (at .session .board)) block
+      (block + count)
 
-  erase-leaves : called at c ≡ leaves (takenOf (toSync (withSums (at .session) erase-sums) idle noDownload)) (erased (at .flash) block count) (c .reply)
+  erase-leaves :
+      called stepOf at c
+      ≡ leaves (takenOf (toSync (withSums (at .session) erase-sums) idle noDownload)) (erased (at .flash) block count) (c .reply)
   unfolding carriedOut eraseOf erase-sums
   erase-leaves =
       command-leaves at c 4 8 k (omega arith) (omega arith) (omega arith) (inr refl)
       ∙ rw (range .block-is, range .count-is, legal-in at block (startOf count) legal)
 
-  erase-done : EraseDone at c block count
+  erase-done : EraseDone stepOf at c block count
   unfolding movedTo
   erase-done =
       let f = at .flash in
@@ -70,11 +75,13 @@ module _ (at : Site) (c : Call) (block count : ℕ) (k : Commanded at c 4 8) (ra
             };
       }
 
-pub EraseWorks-holds : EraseWorks
+pub EraseWorks-holds : EraseWorks stepOf
 EraseWorks-holds = erase-done
 
 -- what a write leaves, where the bytes lie in flash
-module _ (at : Site) (c : Call) (place len : ℕ) (bytes : List ℕ) (k : Prepared at c) (ne : at .session .phase .state .0 ≡ 9 → ⊥) (fits : place + length bytes ≤ length (at .flash)) where
+module _
+    (at : Site) (c : Call) (place len : ℕ) (bytes : List ℕ) (k : Prepared at c) (ne : at .session .phase .state .0 ≡ 9 → ⊥)
+    (fits : place + length bytes ≤ length (at .flash)) where
   written : Session
   written =
       toSync
@@ -82,7 +89,9 @@ module _ (at : Site) (c : Call) (place len : ℕ) (bytes : List ℕ) (k : Prepar
       downloadIdle
       (downOf (place + length bytes) (len - length bytes))
 
-  write-done : called at c ≡ withReply (wroteOf (at .session) (at .flash) place bytes (len - length bytes)) (c .reply) → BytesDone at c place len bytes
+  write-done :
+      called stepOf at c ≡ withReply (wroteOf (at .session) (at .flash) place bytes (len - length bytes)) (c .reply)
+      → BytesDone stepOf at c place len bytes
   unfolding wroteOf written movedTo
   write-done e =
       let g = spliced (at .flash) place bytes in
@@ -101,15 +110,18 @@ module _ (at : Site) (c : Call) (place len : ℕ) (bytes : List ℕ) (k : Prepar
             };
       }
 
-module _ (at : Site) (c : Call) (block len n : ℕ) (k : Commanded at c 1 n) (long : 8 ≤ n) (range : Named c block len) (legal : Legal at block len) (few : n ≤ 8 + len) (blank : Blank at block len) where
+module _
+    (at : Site) (c : Call) (block len n : ℕ) (k : Commanded at c 1 n) (long : 8 ≤ n) (range : Named c block len)
+    (legal : Legal at block len) (few : n ≤ 8 + len) (blank : Blank at block len) where
   first-few : length (drop 8 (c .bytes)) ≤ len
   first-few = omega (arith, length-drop 8 (c .bytes), asks-brings at c n (k .asks))
 
-  prog-done : BytesDone at c (startOf block) len (drop 8 (c .bytes))
+  prog-done : BytesDone stepOf at c (startOf block) len (drop 8 (c .bytes))
   unfolding carriedOut progOf
   prog-done =
       let fits = legal-fits at c block len (k .asks .prepared) legal in
-      write-done at c (startOf block) len (drop 8 (c .bytes)) (k .asks .prepared) (λ e. omega (arith, e, k .idle)) (omega (arith, first-few, fits))
+      write-done at c (startOf block) len (drop 8 (c .bytes)) (k .asks .prepared) (λ e. omega (arith, e, k .idle))
+      (omega (arith, first-few, fits))
       (command-leaves at c 1 n k long (omega arith) (omega arith) (inl refl)
       ∙ rw (
         range .block-is,
@@ -119,9 +131,11 @@ module _ (at : Site) (c : Call) (block len n : ℕ) (k : Commanded at c 1 n) (lo
         bytes-erased (at .flash) block len fits blank,
       ))
 
-module _ (at : Site) (c : Call) (n : ℕ) (k : Asks at c Request.Dnload n) (loading : at .session .phase .state .0 ≡ 5) (some : 1 ≤ n) (few : n ≤ at .session .down .left) where
+module _
+    (at : Site) (c : Call) (n : ℕ) (k : Asks at c Request.Dnload n) (loading : at .session .phase .state .0 ≡ 5) (some : 1 ≤ n)
+    (few : n ≤ at .session .down .left) where
   pub written-leaves :
-      called at c
+      called stepOf at c
       ≡ withReply
       (wroteOf (at .session) (at .flash) (at .session .down .place .0) (c .bytes) (at .session .down .left - length (c .bytes)))
       (c .reply)
@@ -139,14 +153,14 @@ module _ (at : Site) (c : Call) (n : ℕ) (k : Asks at c Request.Dnload n) (load
   piece-fits =
       let s = at .session in
       let runs : running (s .phase) ≡ true = rw loading in
-      omega (arith, fit-facts s (k .prepared .rules) .left-to runs, end-in-flash (s .board), few, asks-brings at c n k, k .prepared .flash-length)
+      omega (arith, k .prepared .rules .left-to runs, end-in-flash (s .board), few, asks-brings at c n k, k .prepared .flash-length)
 
-  piece-done : BytesDone at c (at .session .down .place .0) (at .session .down .left) (c .bytes)
+  piece-done : BytesDone stepOf at c (at .session .down .place .0) (at .session .down .left) (c .bytes)
   piece-done =
       write-done at c (at .session .down .place .0) (at .session .down .left) (c .bytes) (k .prepared)
       (λ e. omega (arith, e, loading))
       piece-fits
       written-leaves
 
-pub ProgramWorks-holds : ProgramWorks
-ProgramWorks-holds = record { starts = prog-done; goes-on = piece-done }
+pub ProgramWorks-holds : ProgramWorks stepOf
+ProgramWorks-holds at c = record { starts = prog-done at c; goes-on = piece-done at c }

@@ -1,12 +1,11 @@
 -- What a call asks for, in the paper's words: which calls are prepared, the form table, and the states that allow a request.
 use Prim.Native.Nat.{ℕ, _≤_, _<_}
-use mathlib.Core.Bool.{true}
 use mathlib.Core.List.{List}
 use mathlib.Core.Logic.{_⊎_}
 use mathlib.Core.Path.{_≡_}
 use lib.ListN.{length, getD}
 use Rattle.flash.specs.Flash.{startOf}
-use Rattle.session.specs.Rules.{fitOf}
+use Rattle.session.specs.Fit.{Fit}
 use Rattle.request.specs.Request.{wordAt}
 use Rattle.request.specs.declared.Request.{Request}
 use Rattle.demands.specs.Calls.{Call, Site}
@@ -27,7 +26,7 @@ pub record Prepared (at : Site) (c : Call) : Type 0 where
   pub flash-length : length (at .flash) ≡ startOf (at .session .board .b .0)
   pub dnload-data : SaysDnload (c .setup) → length (c .bytes) ≡ wordAt (c .setup) 6
   pub other-data : (SaysDnload (c .setup) → ⊥) → length (c .bytes) ≡ 0
-  pub rules : fitOf (at .session) ≡ true
+  pub rules : Fit (at .session)
 
 -- what setup bytes say: type, number, wIndex 0, and n for wLength; wValue is left open
 pub record Says (setup : List ℕ) (type number n : ℕ) : Type 0 where

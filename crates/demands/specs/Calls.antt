@@ -1,9 +1,33 @@
--- Calls in a row: a host hands over requests, and each is served with the session that the call before it handed back.
+-- A loader is a start and a step. Calls in a row: a host hands over requests, and each is served with the session that the call
+-- before it handed back.
 use Prim.Native.Nat.{ℕ}
 use mathlib.Core.List.{List, [], _∷_}
 use Rattle.session.specs.declared.Session.{Session}
-use Rattle.moves.specs.Answers.{Leaves}
-use Rattle.loader.specs.Step.{stepOf}
+use Rattle.moves.specs.declared.Outcome.{Outcome}
+use Rattle.moves.specs.Answers.{answerNumber, Leaves}
+
+-- session, flash, setup, data and reply buffer to all that a call leaves
+abbrev pub Step : Type 0
+Step = Session → List ℕ → List ℕ → List ℕ → List ℕ → Leaves
+
+-- flash, A, B and the part numbers to what a start leaves; it changes no flash
+abbrev pub Start : Type 0
+Start = List ℕ → ℕ → ℕ → ℕ → ℕ → Outcome
+
+-- the number that the host hears: 0 taken, 1 stalled, 2 unfit, 3 faulted, 4 reset asked
+abbrev pub heard : Leaves → ℕ
+heard l = answerNumber (l .outcome .answer)
+
+-- the count of reply bytes, and the session handed back
+abbrev pub countOf : Leaves → ℕ
+countOf l = l .outcome .count
+
+abbrev pub sessionOf : Leaves → Session
+sessionOf l = l .outcome .session
+
+-- the number that a start answers
+abbrev pub told : Outcome → ℕ
+told o = answerNumber (o .answer)
 
 -- what a call is handed besides the session and the flash: setup bytes, data, and the reply buffer as it was lent
 pub record Call : Type 0 where
@@ -16,14 +40,18 @@ pub record Site : Type 0 where
   pub session : Session
   pub flash : List ℕ
 
+-- the site that a start leaves: its session, and the flash that it read
+unfoldable pub begun : Start → List ℕ → ℕ → ℕ → ℕ → ℕ → Site
+begun start f a b part0 part1 = record { session = start f a b part0 part1 .session; flash = f }
+
 -- all that a call leaves
-unfoldable pub called : Site → Call → Leaves
-called at c = stepOf (at .session) (at .flash) (c .setup) (c .bytes) (c .reply)
+unfoldable pub called : Step → Site → Call → Leaves
+called step at c = step (at .session) (at .flash) (c .setup) (c .bytes) (c .reply)
 
 -- the site after a call, and after a list of them
-unfoldable pub next : Site → Call → Site
-next at c = record { session = called at c .outcome .session; flash = called at c .flash }
+unfoldable pub next : Step → Site → Call → Site
+next step at c = record { session = sessionOf (called step at c); flash = called step at c .flash }
 
-unfoldable pub after : Site → List Call → Site
-after at [] = at
-after at (c ∷ cs) = after (next at c) cs
+unfoldable pub after : Step → Site → List Call → Site
+after step at [] = at
+after step at (c ∷ cs) = after step (next step at c) cs

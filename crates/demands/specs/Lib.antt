@@ -2,9 +2,11 @@
 pub mod Calls
 pub mod Asked
 pub mod One
-pub mod Three
 pub mod Two
 pub mod TwoCommands
 pub mod TwoStreams
-pub mod Tied
+pub mod Three
 pub mod ReadBack
+pub mod Tied
+pub mod Demands
+pub mod Determine

@@ -1,6 +1,5 @@
 -- Demand 1: no call touches flash that it must not, a refused call leaves what the paper says, and a fit session stays fit.
 use Prim.Native.Nat.{ℕ, _-_, _≤_, _<_}
-use mathlib.Core.Bool.{true}
 use mathlib.Core.List.{List}
 use mathlib.Core.Logic.{_⊎_}
 use mathlib.Core.Path.{_≡_}
@@ -8,14 +7,13 @@ use lib.ListN.{length, getD}
 use Rattle.flash.specs.Flash.{startOf}
 use Rattle.sums.specs.Sum.{mostBlocks}
 use Rattle.session.specs.Session.{appEnd, zerosOf}
-use Rattle.session.specs.Rules.{fitOf}
+use Rattle.session.specs.Fit.{Fit}
 use Rattle.session.specs.declared.Board.{Board}
 use Rattle.session.specs.declared.Session.{Session}
 use Rattle.request.specs.declared.Request.{Request}
 use Rattle.moves.specs.declared.Outcome.{Outcome}
-use Rattle.moves.specs.Answers.{Leaves, answerNumber}
-use Rattle.loader.specs.Step.{startOutcome}
-use Rattle.demands.specs.Calls.{Call, Site, called, next}
+use Rattle.moves.specs.Answers.{Leaves}
+use Rattle.demands.specs.Calls.{Start, Step, heard, countOf, sessionOf, told, Call, Site, called, next}
 use Rattle.demands.specs.Asked.{stateOf, Prepared, Form, Allowed, NoRequest}
 
 -- an address in no application block: below block A's first byte, or from the application's end on
@@ -29,16 +27,12 @@ pub record Untouched (board : Board) (f g : List ℕ) : Type 0 where
 
 -- Outside: whatever the session, fit or not, the flash, the setup, the data and the reply buffer, a call changes no byte outside
 -- the application blocks of the session, and not the flash's length
-abbrev pub Outside : Type 0
-Outside = (at : Site) (c : Call) → Untouched (at .session .board) (at .flash) (next at c .flash)
-
--- the number that the host hears: 0 taken, 1 stalled, 2 unfit, 3 faulted, 4 reset asked
-abbrev pub heard : Leaves → ℕ
-heard l = answerNumber (l .outcome .answer)
+abbrev pub Outside : Step → Type 0
+Outside step = (at : Site) (c : Call) → Untouched (at .session .board) (at .flash) (next step at c .flash)
 
 -- what every refused call leaves: a count of 0, flash and reply untouched
 pub record Quiet (at : Site) (c : Call) (l : Leaves) : Type 0 where
-  pub count : l .outcome .count ≡ 0
+  pub count : countOf l ≡ 0
   pub flash : l .flash ≡ at .flash
   pub reply : l .reply ≡ c .reply
 
@@ -70,13 +64,13 @@ AsFresh s t = Settled s t 2 0 0 1 (s .board .a .0) (startOf (appEnd (s .board) -
 pub record Stalled (at : Site) (c : Call) (l : Leaves) : Type 0 where
   pub when : NoRequest at c
   pub quiet : Quiet at c l
-  pub in-ten : at .session .phase .state .0 ≡ 10 → l .outcome .session ≡ at .session
-  pub elsewhere : (at .session .phase .state .0 ≡ 10 → ⊥) → InError (at .session) (l .outcome .session) 0x0F
+  pub in-ten : at .session .phase .state .0 ≡ 10 → sessionOf l ≡ at .session
+  pub elsewhere : (at .session .phase .state .0 ≡ 10 → ⊥) → InError (at .session) (sessionOf l) 0x0F
 
 -- row 2, unfit: nothing changes
 pub record Unfit (at : Site) (c : Call) (l : Leaves) : Type 0 where
   pub quiet : Quiet at c l
-  pub session : l .outcome .session ≡ at .session
+  pub session : sessionOf l ≡ at .session
 
 -- a status that a fault can set: 05, 08, 09 or 0B
 pub data FaultStatus (n : ℕ) : Type 0 where
@@ -89,8 +83,8 @@ pub data FaultStatus (n : ℕ) : Type 0 where
 pub record Faulted (at : Site) (c : Call) (l : Leaves) : Type 0 where
   pub when : (n : ℕ) × Form (c .setup) n Request.Dnload
   pub quiet : Quiet at c l
-  pub status : FaultStatus (l .outcome .session .phase .status .0)
-  pub in-error : InError (at .session) (l .outcome .session) (l .outcome .session .phase .status .0)
+  pub status : FaultStatus (sessionOf l .phase .status .0)
+  pub in-error : InError (at .session) (sessionOf l) (sessionOf l .phase .status .0)
 
 -- a DNLOAD in state 2 of the eight bytes of RESET, number 7
 pub record ResetCommand (at : Site) (c : Call) : Type 0 where
@@ -103,7 +97,7 @@ pub record ResetCommand (at : Site) (c : Call) : Type 0 where
 pub record ResetAsked (at : Site) (c : Call) (l : Leaves) : Type 0 where
   pub when : ResetCommand at c
   pub quiet : Quiet at c l
-  pub as-fresh : AsFresh (at .session) (l .outcome .session)
+  pub as-fresh : AsFresh (at .session) (sessionOf l)
 
 -- rows 1 to 4 of the answer table
 pub record AnswerRows (at : Site) (c : Call) (l : Leaves) : Type 0 where
@@ -113,24 +107,24 @@ pub record AnswerRows (at : Site) (c : Call) (l : Leaves) : Type 0 where
   pub reset-asked : heard l ≡ 4 → ResetAsked at c l
 
 -- Refused: each refused call leaves what its row says
-abbrev pub Refused : Type 0
-Refused = (at : Site) (c : Call) → AnswerRows at c (called at c)
+abbrev pub Refused : Step → Type 0
+Refused step = (at : Site) (c : Call) → AnswerRows at c (called step at c)
 
 -- UnfitExactly: a call that is not so prepared is answered unfit, and no other
-pub record UnfitExactly : Type 0 where
-  pub unprepared : (at : Site) (c : Call) → (Prepared at c → ⊥) → heard (called at c) ≡ 2
-  pub prepared : (at : Site) (c : Call) → Prepared at c → heard (called at c) ≡ 2 → ⊥
+pub record UnfitExactly (step : Step) : Type 0 where
+  pub unprepared : (at : Site) (c : Call) → (Prepared at c → ⊥) → heard (called step at c) ≡ 2
+  pub prepared : (at : Site) (c : Call) → Prepared at c → heard (called step at c) ≡ 2 → ⊥
 
 -- StalledExactly: of the prepared calls those are stalled that are no request in form which the state allows, and no other call is
-pub record StalledExactly : Type 0 where
-  pub not-allowed : (at : Site) (c : Call) → Prepared at c → NoRequest at c → heard (called at c) ≡ 1
+pub record StalledExactly (step : Step) : Type 0 where
+  pub not-allowed : (at : Site) (c : Call) → Prepared at c → NoRequest at c → heard (called step at c) ≡ 1
   pub allowed :
       (at : Site) (c : Call) (r : Request) (n : ℕ) → Form (c .setup) n r → Allowed r n (stateOf at)
-      → heard (called at c) ≡ 1 → ⊥
+      → heard (called step at c) ≡ 1 → ⊥
 
 -- StaysFit: a fit session is handed back fit, whatever the call
-abbrev pub StaysFit : Type 0
-StaysFit = (at : Site) (c : Call) → fitOf (at .session) ≡ true → fitOf (next at c .session) ≡ true
+abbrev pub StaysFit : Step → Type 0
+StaysFit step = (at : Site) (c : Call) → Fit (at .session) → Fit (next step at c .session)
 
 -- sizes that a start allows: 1 ≤ A < B, B at most the most blocks, and a flash of B × 1,024 bytes
 pub record AllowedStart (f : List ℕ) (a b : ℕ) : Type 0 where
@@ -141,24 +135,25 @@ pub record AllowedStart (f : List ℕ) (a b : ℕ) : Type 0 where
 
 -- a start that is taken, with a fit session
 pub record GoodStart (o : Outcome) : Type 0 where
-  pub answer : answerNumber (o .answer) ≡ 0
+  pub answer : told o ≡ 0
   pub count : o .count ≡ 0
-  pub fit : fitOf (o .session) ≡ true
+  pub fit : Fit (o .session)
 
 -- StartsFit: so is every start on allowed sizes
-abbrev pub StartsFit : Type 0
-StartsFit = (f : List ℕ) (a b part0 part1 : ℕ) → AllowedStart f a b → GoodStart (startOutcome f a b part0 part1)
+abbrev pub StartsFit : Start → Type 0
+StartsFit start = (f : List ℕ) (a b part0 part1 : ℕ) → AllowedStart f a b → GoodStart (start f a b part0 part1)
 
 -- a start that is answered unfit, with the session of zeros, which every later call finds unfit, whatever flash it is lent
-pub record BadStart (o : Outcome) : Type 0 where
-  pub answer : answerNumber (o .answer) ≡ 2
+pub record BadStart (step : Step) (o : Outcome) : Type 0 where
+  pub answer : told o ≡ 2
   pub count : o .count ≡ 0
   pub session : o .session ≡ zerosOf
-  pub later-answer : (g : List ℕ) (c : Call) → heard (called (record { session = o .session; flash = g }) c) ≡ 2
+  pub later-answer : (g : List ℕ) (c : Call) → heard (called step (record { session = o .session; flash = g }) c) ≡ 2
   pub later :
       (g : List ℕ) (c : Call)
-      → Unfit (record { session = o .session; flash = g }) c (called (record { session = o .session; flash = g }) c)
+      → Unfit (record { session = o .session; flash = g }) c (called step (record { session = o .session; flash = g }) c)
 
 -- RefusedStart: so is every other start
-abbrev pub RefusedStart : Type 0
-RefusedStart = (f : List ℕ) (a b part0 part1 : ℕ) → (AllowedStart f a b → ⊥) → BadStart (startOutcome f a b part0 part1)
+abbrev pub RefusedStart : Start → Step → Type 0
+RefusedStart start step =
+    (f : List ℕ) (a b part0 part1 : ℕ) → (AllowedStart f a b → ⊥) → BadStart step (start f a b part0 part1)

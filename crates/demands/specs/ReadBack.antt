@@ -8,11 +8,12 @@ use lib.ListN.{length, take}
 use Rattle.flash.specs.Flash.{startOf, nextStart, range, spliced, erased}
 use Rattle.session.specs.Codes.{idle, downloadIdle}
 use Rattle.session.specs.Session.{downOf}
-use Rattle.session.specs.Rules.{inApplication, fitOf}
+use Rattle.session.specs.Fit.{Fit}
 use Rattle.stream.specs.Stream.{bytes2, bytes4}
 use Rattle.command.specs.Download.{prog, read, erase}
-use Rattle.moves.specs.Answers.{Leaves, answerNumber}
-use Rattle.demands.specs.Calls.{Call, Site, called, next}
+use Rattle.moves.specs.Answers.{Leaves}
+use Rattle.demands.specs.Calls.{Step, heard, countOf, Call, Site, called, next}
+use Rattle.demands.specs.TwoCommands.{Legal}
 
 -- A host ends with something, or makes a call and goes on by the reply bytes that it hears. It is handed no session and no flash, so
 -- what it asks can hang on nothing but what it was told and what it heard.
@@ -22,11 +23,11 @@ pub data Host (A : Type 0) : Type 0 where
 
 -- the reply bytes of a call: as many as its count says
 unfoldable pub replied : Leaves → List ℕ
-replied l = take (l .outcome .count) (l .reply)
+replied l = take (countOf l) (l .reply)
 
 -- whether the answer was 0, taken
 unfoldable pub wasTaken : Leaves → Bool
-wasTaken l = eqb (answerNumber (l .outcome .answer)) 0
+wasTaken l = eqb (heard l) 0
 
 -- what a host's calls leave: the site, what the host ended with, and whether every one of them was taken
 pub record Ran (A : Type 0) : Type 0 where
@@ -39,9 +40,10 @@ unfoldable pub ranAfter : {A : Type 0} → Bool → Ran A → Ran A
 ranAfter first r = record { site = r .site; got = r .got; taken = first && r .taken }
 
 -- a host's calls one after another, each with the session and the flash that the one before it left
-unfoldable pub run : {A : Type 0} → Site → Host A → Ran A
-run at (ends a) = record { site = at; got = a; taken = true }
-run at (asks c go) = ranAfter (wasTaken (called at c)) (run (next at c) (go (replied (called at c))))
+unfoldable pub run : {A : Type 0} → Step → Site → Host A → Ran A
+run step at (ends a) = record { site = at; got = a; taken = true }
+run step at (asks c go) =
+    ranAfter (wasTaken (called step at c)) (run step (next step at c) (go (replied (called step at c))))
 
 -- setup bytes: type, number, wValue 0, wIndex 0, wLength
 unfoldable pub setupFor : ℕ → ℕ → ℕ → List ℕ
@@ -106,46 +108,47 @@ unfoldable pub sends : List ℕ → List (List ℕ) → Host Unit
 sends lent [] = ends tt
 sends lent (bytes ∷ rest) = asks (dnload lent bytes) (λ _. asks (poll lent) (λ _. sends lent rest))
 
--- the parts in turn, each at the site that the one before it left; what is sent is what was replied
-unfoldable pub hasRead : Site → List ℕ → ℕ → ℕ → Ran (List (List ℕ))
-hasRead at lent block len = run at (reads lent block len)
-
-unfoldable pub hasCleared : Site → List ℕ → ℕ → ℕ → Ran Unit
-hasCleared at lent block len = run (hasRead at lent block len .site) (clears lent block len)
-
-unfoldable pub hasSent : Site → List ℕ → ℕ → ℕ → Ran Unit
-hasSent at lent block len = run (hasCleared at lent block len .site) (sends lent (hasRead at lent block len .got))
-
 -- where it is claimed: a fit session in state 2 with the prefix on, a flash of its length, a reply buffer with room for an answer,
 -- and a range that isn't empty and lies in the application
 pub record MayReadBack (at : Site) (lent : List ℕ) (block len : ℕ) : Type 0 where
-  pub fit : fitOf (at .session) ≡ true
+  pub fit : Fit (at .session)
   pub in-idle : at .session .phase .state .0 ≡ idle
   pub prefixed : at .session .up .«prefix» ≡ 1
   pub sized : length (at .flash) ≡ startOf (at .session .board .b .0)
   pub roomy : 1024 ≤ length lent
-  pub legal : inApplication (at .session .board) block len ≡ true
+  pub legal : Legal at block len
 
--- what is claimed: every call is taken; the host hears the PROG command and the range's bytes, and that changes no flash; the erase
--- clears the blocks of the range and no other byte; what is sent fills the range with its bytes of the start, and then the download
--- has no bytes left to come
-pub record ReadsBack (at : Site) (lent : List ℕ) (block len : ℕ) : Type 0 where
-  pub read-taken : hasRead at lent block len .taken ≡ true
-  pub clear-taken : hasCleared at lent block len .taken ≡ true
-  pub send-taken : hasSent at lent block len .taken ≡ true
-  pub all-heard :
-      joined (hasRead at lent block len .got) ≡ progCommand block len ++ range (at .flash) (startOf block) len
-  pub untouched : hasRead at lent block len .site .flash ≡ at .flash
-  pub cleared : hasCleared at lent block len .site .flash ≡ erased (at .flash) block (nextStart len)
-  pub filled :
-      hasSent at lent block len .site .flash
-      ≡ spliced (erased (at .flash) block (nextStart len)) (startOf block) (range (at .flash) (startOf block) len)
-  pub restored :
-      range (hasSent at lent block len .site .flash) (startOf block) len ≡ range (at .flash) (startOf block) len
-  pub in-download-idle : hasSent at lent block len .site .session .phase .state .0 ≡ downloadIdle
-  pub none-left : hasSent at lent block len .site .session .down ≡ downOf (startOf block + len) 0
+module _ (step : Step) where
+  -- the parts in turn, each at the site that the one before it left; what is sent is what was replied
+  unfoldable pub hasRead : Site → List ℕ → ℕ → ℕ → Ran (List (List ℕ))
+  hasRead at lent block len = run step at (reads lent block len)
 
--- read-back: wherever it is claimed, it is so
-abbrev pub ReadBack : Type 0
-ReadBack =
-    (at : Site) (lent : List ℕ) (block len : ℕ) → MayReadBack at lent block len → ReadsBack at lent block len
+  unfoldable pub hasCleared : Site → List ℕ → ℕ → ℕ → Ran Unit
+  hasCleared at lent block len = run step (hasRead at lent block len .site) (clears lent block len)
+
+  unfoldable pub hasSent : Site → List ℕ → ℕ → ℕ → Ran Unit
+  hasSent at lent block len = run step (hasCleared at lent block len .site) (sends lent (hasRead at lent block len .got))
+
+  -- what is claimed: every call is taken; the host hears the PROG command and the range's bytes, and that changes no flash; the erase
+  -- clears the blocks of the range and no other byte; what is sent fills the range with its bytes of the start, and then the download
+  -- has no bytes left to come
+  pub record ReadsBack (at : Site) (lent : List ℕ) (block len : ℕ) : Type 0 where
+    pub read-taken : hasRead at lent block len .taken ≡ true
+    pub clear-taken : hasCleared at lent block len .taken ≡ true
+    pub send-taken : hasSent at lent block len .taken ≡ true
+    pub all-heard :
+        joined (hasRead at lent block len .got) ≡ progCommand block len ++ range (at .flash) (startOf block) len
+    pub untouched : hasRead at lent block len .site .flash ≡ at .flash
+    pub cleared : hasCleared at lent block len .site .flash ≡ erased (at .flash) block (nextStart len)
+    pub filled :
+        hasSent at lent block len .site .flash
+        ≡ spliced (erased (at .flash) block (nextStart len)) (startOf block) (range (at .flash) (startOf block) len)
+    pub restored :
+        range (hasSent at lent block len .site .flash) (startOf block) len ≡ range (at .flash) (startOf block) len
+    pub in-download-idle : hasSent at lent block len .site .session .phase .state .0 ≡ downloadIdle
+    pub none-left : hasSent at lent block len .site .session .down ≡ downOf (startOf block + len) 0
+
+  -- read-back: wherever it is claimed, it is so
+  abbrev pub ReadBack : Type 0
+  ReadBack =
+      (at : Site) (lent : List ℕ) (block len : ℕ) → MayReadBack at lent block len → ReadsBack at lent block len

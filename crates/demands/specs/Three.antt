@@ -9,35 +9,30 @@ use lib.ListN.{getD}
 use Rattle.flash.specs.Flash.{startOf}
 use Rattle.sums.specs.Sum.{Right}
 use Rattle.session.specs.Session.{boardOf, appEnd}
-use Rattle.session.specs.Rules.{fitOf}
+use Rattle.session.specs.Fit.{Fit}
 use Rattle.session.specs.declared.Board.{Board}
 use Rattle.session.specs.declared.Session.{Session}
 use Rattle.request.specs.Request.{wordAt, requestOf}
 use Rattle.request.specs.declared.Request.{Request}
 use Rattle.moves.specs.Answers.{Leaves}
 use Rattle.command.specs.Download.{longAt}
-use Rattle.loader.specs.Step.{startOutcome}
-use Rattle.demands.specs.Calls.{Call, Site, called, next, after}
-use Rattle.demands.specs.One.{Untouched, heard, AllowedStart}
-
--- the site that a start leaves: its session, and the flash that it read
-unfoldable pub begun : List ℕ → ℕ → ℕ → ℕ → ℕ → Site
-begun f a b part0 part1 = record { session = startOutcome f a b part0 part1 .session; flash = f }
+use Rattle.demands.specs.Calls.{Start, Step, heard, Call, Site, begun, called, next, after}
+use Rattle.demands.specs.One.{Untouched, AllowedStart}
 
 -- what a history leaves of a start on flash f: A, B and the part numbers as given, a fit session, sums that are those of the flash
 -- as it now is, and every byte outside the application as it was at the start
 pub record Held (f : List ℕ) (board : Board) (at : Site) : Type 0 where
   pub board-kept : at .session .board ≡ board
-  pub fit : fitOf (at .session) ≡ true
+  pub fit : Fit (at .session)
   pub sums-right : Right (at .session .sums) (at .flash) (board .a .0) (appEnd board)
   pub outside-kept : Untouched board f (at .flash)
 
 -- History: start on any flash of an allowed size and split, then serve any list of calls, each with the session last handed back. A
 -- list is any, so this holds after each of its calls too
-abbrev pub History : Type 0
-History =
+abbrev pub History : Start → Step → Type 0
+History start step =
     (f : List ℕ) (a b part0 part1 : ℕ) → AllowedStart f a b → (calls : List Call)
-    → Held f (boardOf a b part0 part1) (after (begun f a b part0 part1) calls)
+    → Held f (boardOf a b part0 part1) (after step (begun start f a b part0 part1) calls)
 
 -- some bytes of flash that were named: where they begin, and how many they are
 pub record NamedRange : Type 0 where
@@ -90,18 +85,21 @@ unfoldable pub noteOf : NamedRange → Session → Call → Leaves → NamedRang
 noteOf noted s c l = cond (tookDnload 2 s c l && eqb (getD (c .bytes) 0 0) 1) (progNames (c .bytes)) noted
 
 -- what is noted after a list of calls
-unfoldable pub notedAfter : NamedRange → Site → List Call → NamedRange
-notedAfter noted at [] = noted
-notedAfter noted at (c ∷ cs) = notedAfter (noteOf noted (at .session) c (called at c)) (next at c) cs
+unfoldable pub notedAfter : Step → NamedRange → Site → List Call → NamedRange
+notedAfter step noted at [] = noted
+notedAfter step noted at (c ∷ cs) =
+    notedAfter step (noteOf noted (at .session) c (called step at c)) (next step at c) cs
 
 -- a call changes no other bytes than it may
-abbrev pub ChangesNamed : NamedRange → Site → Call → Type 0
-ChangesNamed noted at c =
-    (k : ℕ) → NotNamed (mayChange noted (at .session) c (called at c)) k → getD (next at c .flash) k 0 ≡ getD (at .flash) k 0
+abbrev pub ChangesNamed : Step → NamedRange → Site → Call → Type 0
+ChangesNamed step noted at c =
+    (k : ℕ) → NotNamed (mayChange noted (at .session) c (called step at c)) k
+    → getD (next step at c .flash) k 0 ≡ getD (at .flash) k 0
 
 -- OnlyNamed: after a start and any calls, each call changes no byte but those named by the ERASE or PROG that it carries out, or by
 -- the PROG that it continues
-abbrev pub OnlyNamed : Type 0
-OnlyNamed =
+abbrev pub OnlyNamed : Start → Step → Type 0
+OnlyNamed start step =
     (f : List ℕ) (a b part0 part1 : ℕ) → AllowedStart f a b → (calls : List Call) (c : Call)
-    → ChangesNamed (notedAfter none (begun f a b part0 part1) calls) (after (begun f a b part0 part1) calls) c
+    → ChangesNamed step (notedAfter step none (begun start f a b part0 part1) calls)
+    (after step (begun start f a b part0 part1) calls) c

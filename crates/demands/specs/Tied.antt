@@ -1,5 +1,5 @@
 -- How tightly the calls are tied down: the starred desk examples, that no second outcome fits, and the impostors.
-use Prim.Native.Nat.{ℕ, _-_, _≤_}
+use Prim.Native.Nat.{ℕ, _-_, _≤_, _<_}
 use mathlib.Core.Bool.{cond, _&&_}
 use mathlib.Core.List.{List, [], _∷_, _++_}
 use mathlib.Core.Path.{_≡_}
@@ -10,11 +10,15 @@ use Rattle.sums.specs.declared.Sums.{Sums}
 use Rattle.session.specs.Session.{withSums}
 use Rattle.session.specs.declared.Session.{Session}
 use Rattle.request.specs.Request.{wordAt}
-use Rattle.moves.specs.declared.Outcome.{Outcome}
+use Rattle.stream.specs.Stream.{Sent}
+use Rattle.moves.specs.declared.Answer.{Answer}
 use Rattle.moves.specs.Answers.{answerNumber, Leaves, outcome, leaves}
 use Rattle.moves.specs.Moves.{takenOf, stallOf}
 use Rattle.loader.specs.Step.{startOutcome, stepOf}
-use Rattle.demands.specs.Calls.{Call, Site, called, after}
+use Rattle.demands.specs.Calls.{Start, Step, heard, countOf, sessionOf, Call, Site, begun, called, after}
+use Rattle.demands.specs.Two.{RowsAt}
+use Rattle.demands.specs.TwoCommands.{EraseAt, ProgramAt}
+use Rattle.demands.specs.Three.{History}
 
 -- one example: where it starts, the calls that lead up to it, the call, and what is expected of it: the answer's number, the state
 -- and the status of the session handed back, the bytes of the reply, and the flash
@@ -30,21 +34,22 @@ pub record Case : Type 0 where
 
 -- what a call leaves is what an example expects: the count is that of the reply's bytes, and the rest of the reply is untouched
 pub record Meets (left : Leaves) (c : Case) : Type 0 where
-  pub answer : answerNumber (left .outcome .answer) ≡ c .answer
-  pub count : left .outcome .count ≡ length (c .reply)
-  pub state : left .outcome .session .phase .state .0 ≡ c .state
-  pub status : left .outcome .session .phase .status .0 ≡ c .status
+  pub answer : heard left ≡ c .answer
+  pub count : countOf left ≡ length (c .reply)
+  pub state : sessionOf left .phase .state .0 ≡ c .state
+  pub status : sessionOf left .phase .status .0 ≡ c .status
   pub reply : left .reply ≡ c .reply ++ drop (length (c .reply)) (c .call .reply)
   pub flash : left .flash ≡ c .flash
 
-abbrev pub Expected : Case → Type 0
-Expected c = Meets (called (after (c .at) (c .before)) (c .call)) c
+abbrev pub Expected : Step → Case → Type 0
+Expected step c = Meets (called step (after step (c .at) (c .before)) (c .call)) c
 
 -- something holds of all of a list
-abbrev pub All : (Case → Type 0) → List Case → Type 0
-All P [] = Unit
-All P (c ∷ cs) = P c × All P cs
+pub data All (P : Case → Type 0) : List Case → Type 0 where
+  none : All P []
+  _and_ : {c : Case} {cs : List Case} → P c → All P cs → All P (c ∷ cs)
 
+infixr 20 _and_
 -- the calls of the examples, each with the reply buffer that it is lent
 module _ (buffer : List ℕ) where
   -- a request that brings no data
@@ -94,9 +99,9 @@ abbrev pub marred : List ℕ → List ℕ
 marred flash = spliced (wiped flash) (startOf 16) (0x00 ∷ [])
 
 -- the examples stand at a fresh start with A = 16 and B = 64
-module _ (part0 part1 : ℕ) (flash : List ℕ) where
+module _ (start : Start) (part0 part1 : ℕ) (flash : List ℕ) where
   abbrev pub freshSite : Site
-  freshSite = record { session = startOutcome flash 16 64 part0 part1 .session; flash = flash }
+  freshSite = begun start flash 16 64 part0 part1
 
   -- an example with its parts in a row
   abbrev pub case : List Call → Call → ℕ → ℕ → ℕ → List ℕ → List ℕ → Case
@@ -148,33 +153,34 @@ module _ (part0 part1 : ℕ) (flash : List ℕ) where
       ∷ []
 
 -- all the starred examples hold, over any flash of 64 blocks and with any reply buffer that has room
-abbrev pub Desk : Type 0
-Desk =
+abbrev pub Desk : Start → Step → Type 0
+Desk start step =
     (part0 part1 : ℕ) (flash buffer : List ℕ) → length flash ≡ startOf 64 → 1024 ≤ length buffer
-    → All Expected (deskCases part0 part1 flash buffer)
+    → All (Expected step) (deskCases start part0 part1 flash buffer)
 
--- the promises of a start and of a request: one equation each, on every input
-abbrev pub StartPromise : List ℕ → ℕ → ℕ → ℕ → ℕ → Outcome → Type 0
-StartPromise flash a b part0 part1 o = o ≡ startOutcome flash a b part0 part1
+-- no second outcome fits, on the refused inputs too
+pub record OneOutcome : Type 1 where
+  -- the promise of every public call but two is an equation: all that it leaves, as one value, is what one definition says
+  pub equation : {A : Type 0} (said left other : A) → left ≡ said → other ≡ said → left ≡ other
+  -- stream::send promises a count and the reply buffer apart
+  pub sent :
+      (n m : ℕ) (before after other bytes : List ℕ) → Sent n before after bytes → Sent m before other bytes
+      → (n ≡ m) × (after ≡ other)
+  -- request::word promises a bound beside its equation
+  pub word :
+      (bytes : List ℕ) (at r q : ℕ) → (r ≡ wordAt bytes at) × (r < 65536) → (q ≡ wordAt bytes at) × (q < 65536) → r ≡ q
+  -- and an answer is told by its number
+  pub answer : (x y : Answer) → answerNumber x ≡ answerNumber y → x ≡ y
 
-abbrev pub StepPromise : Session → List ℕ → List ℕ → List ℕ → List ℕ → Leaves → Type 0
-StepPromise s flash setup d reply left = left ≡ stepOf s flash setup d reply
+-- what a call leaves, with another flash, another count and reply, or another session in the place of its own
+abbrev pub butFlash : Leaves → List ℕ → Leaves
+butFlash l flash = leaves (l .outcome) flash (l .reply)
 
--- no second outcome fits: answer, count, session, flash and reply are determined, on the refused inputs too
-pub record OneOutcome : Type 0 where
-  pub start :
-      (flash : List ℕ) (a b part0 part1 : ℕ) (o p : Outcome) → StartPromise flash a b part0 part1 o
-      → StartPromise flash a b part0 part1 p → o ≡ p
-  pub step :
-      (s : Session) (flash setup d reply : List ℕ) (l m : Leaves) → StepPromise s flash setup d reply l
-      → StepPromise s flash setup d reply m → l ≡ m
+abbrev pub butReply : Leaves → ℕ → List ℕ → Leaves
+butReply l count reply = leaves (outcome (l .outcome .answer) count (sessionOf l)) (l .flash) reply
 
--- what could stand in the step's place, and that it keeps the step's promise on every input
-abbrev pub Step : Type 0
-Step = Session → List ℕ → List ℕ → List ℕ → List ℕ → Leaves
-
-abbrev pub Keeps : Step → Type 0
-Keeps f = (s : Session) (flash setup d reply : List ℕ) → StepPromise s flash setup d reply (f s flash setup d reply)
+abbrev pub butSession : Leaves → Session → Leaves
+butSession l s = leaves (outcome (l .outcome .answer) (countOf l) s) (l .flash) (l .reply)
 
 -- one that stalls everything
 abbrev pub stallsAll : Step
@@ -183,21 +189,17 @@ stallsAll s flash setup d reply = leaves (stallOf s) flash reply
 -- one with a single reply, right in all else
 unfoldable pub singleReply : List ℕ → Step
 singleReply bytes s flash setup d reply =
-    let l = stepOf s flash setup d reply in
-    leaves (outcome (l .outcome .answer) (length bytes) (l .outcome .session)) (l .flash)
-    (bytes ++ drop (length bytes) reply)
+    butReply (stepOf s flash setup d reply) (length bytes) (bytes ++ drop (length bytes) reply)
 
 -- one that does nothing: the flash stays, whatever is asked; right in all else, so that the host hears what it hopes for
 unfoldable pub doesNothing : Step
-doesNothing s flash setup d reply =
-    let l = stepOf s flash setup d reply in
-    leaves (l .outcome) flash (l .reply)
+doesNothing s flash setup d reply = butFlash (stepOf s flash setup d reply) flash
 
 -- one that leaves the flash where the data begin with one command's number; right at every other call and in all else
 unfoldable pub doesNothingAt : ℕ → Step
 doesNothingAt code s flash setup d reply =
     let l = stepOf s flash setup d reply in
-    leaves (l .outcome) (cond (eqb (getD d 0 0) code) flash (l .flash)) (l .reply)
+    butFlash l (cond (eqb (getD d 0 0) code) flash (l .flash))
 
 -- one that says taken and leaves the session as it is too
 abbrev pub saysTaken : Step
@@ -207,55 +209,61 @@ saysTaken s flash setup d reply = leaves (takenOf s) flash reply
 unfoldable pub allAtFirst : List ℕ → Step
 allAtFirst image s flash setup d reply =
     let l = stepOf s flash setup d reply in
-    leaves (l .outcome)
-    (cond (eqb (s .phase .state .0) 2 && eqb (l .outcome .session .phase .after .0) 5)
+    butFlash l
+    (cond (eqb (s .phase .state .0) 2 && eqb (sessionOf l .phase .after .0) 5)
     (spliced (l .flash) (startOf (wordAt d 2)) image)
     (l .flash))
-    (l .reply)
 
 -- one that saves all for the close: no piece changes the flash, and the close stores what was held back; right in all else
 unfoldable pub allAtClose : List ℕ → Step
 allAtClose held s flash setup d reply =
     let l = stepOf s flash setup d reply in
-    leaves (l .outcome)
-    (cond (eqb (l .outcome .session .phase .after .0) 5) flash
-    (cond (eqb (l .outcome .session .phase .state .0) 6) (spliced (l .flash) (s .down .place .0 - length held) held)
-    (l .flash)))
-    (l .reply)
+    butFlash l
+    (cond (eqb (sessionOf l .phase .after .0) 5) flash
+    (cond (eqb (sessionOf l .phase .state .0) 6) (spliced (l .flash) (s .down .place .0 - length held) held) (l .flash)))
 
 -- one that invents the byte count, by what was asked for alone; right in all else
 unfoldable pub inventsCount : (ℕ → ℕ) → Step
 inventsCount invented s flash setup d reply =
     let l = stepOf s flash setup d reply in
-    leaves (outcome (l .outcome .answer) (invented (wordAt setup 6)) (l .outcome .session)) (l .flash) (l .reply)
+    butReply l (invented (wordAt setup 6)) (l .reply)
 
 -- one with constant sums, right in all else
 unfoldable pub constantSums : Sums → Step
 constantSums sums s flash setup d reply =
     let l = stepOf s flash setup d reply in
-    leaves (outcome (l .outcome .answer) (l .outcome .count) (withSums (l .outcome .session) sums)) (l .flash) (l .reply)
+    butSession l (withSums (sessionOf l) sums)
 
 -- and such a start
-unfoldable pub constantStart : Sums → List ℕ → ℕ → ℕ → ℕ → ℕ → Outcome
+unfoldable pub constantStart : Sums → Start
 constantStart sums flash a b part0 part1 =
     let o = startOutcome flash a b part0 part1 in
     outcome (o .answer) (o .count) (withSums (o .session) sums)
 
--- none of them keeps the promise; the inputs at which they fail are such as a board can have
+-- a demand of any site and call, asked of a loader where our start and the loader's own calls lead to on a board with A = 1 and B = 3
+abbrev pub Led : (Step → Site → Call → Type 0) → Step → Type 0
+Led demand step =
+    (f : List ℕ) → length f ≡ startOf 3 → (calls : List Call) (c : Call)
+    → demand step (after step (begun startOutcome f 1 3 0 0) calls) c
+
+-- each of them fails a demand, and at a site that a start and calls lead to
 pub record Impostors : Type 0 where
-  pub stalls-everything : Keeps stallsAll → ⊥
-  pub single-reply : (bytes : List ℕ) → Keeps (singleReply bytes) → ⊥
-  pub nothing-done : Keeps doesNothing → ⊥
-  -- nor at PROG alone, nor at ERASE alone
-  pub nothing-programmed : Keeps (doesNothingAt 1) → ⊥
-  pub nothing-erased : Keeps (doesNothingAt 4) → ⊥
-  pub nothing-but-said : Keeps saysTaken → ⊥
-  -- whatever the image, if it is more than the first byte, goes into a block and its second byte is not 0xFF
-  pub all-at-first : (image : List ℕ) → 2 ≤ length image → length image ≤ 1024 → (getD image 1 0 ≡ 0xFF → ⊥) → Keeps (allAtFirst image) → ⊥
-  pub all-at-close : (held : List ℕ) → Keeps (allAtClose held) → ⊥
-  pub invented-count : (invented : ℕ → ℕ) → Keeps (inventsCount invented) → ⊥
-  pub constant-sums : (sums : Sums) → Keeps (constantSums sums) → ⊥
-  pub constant-start :
-      (sums : Sums)
-      → ((flash : List ℕ) (a b part0 part1 : ℕ) → StartPromise flash a b part0 part1 (constantStart sums flash a b part0 part1))
+  -- the rows of demand 2
+  pub stalls-everything : Led RowsAt stallsAll → ⊥
+  pub single-reply : (bytes : List ℕ) → Led RowsAt (singleReply bytes) → ⊥
+  -- ERASE and PROG of demand 2, each by itself
+  pub nothing-done-at-erase : Led EraseAt doesNothing → ⊥
+  pub nothing-done-at-prog : Led ProgramAt doesNothing → ⊥
+  pub nothing-erased : Led EraseAt (doesNothingAt 4) → ⊥
+  pub nothing-programmed : Led ProgramAt (doesNothingAt 1) → ⊥
+  pub nothing-but-said : Led EraseAt saysTaken → ⊥
+  -- the flash after each piece, whatever the image, if some byte of it behind the first isn't 0xFF
+  pub all-at-first :
+      (image : List ℕ) (i : ℕ) → 1 ≤ i → i < length image → (getD image i 0 ≡ 0xFF → ⊥) → Led ProgramAt (allAtFirst image)
       → ⊥
+  pub all-at-close : (held : List ℕ) → Led ProgramAt (allAtClose held) → ⊥
+  -- the row of UPLOAD
+  pub invented-count : (invented : ℕ → ℕ) → Led RowsAt (inventsCount invented) → ⊥
+  -- demand 3
+  pub constant-sums : (sums : Sums) → History startOutcome (constantSums sums) → ⊥
+  pub constant-start : (sums : Sums) → History (constantStart sums) stepOf → ⊥

@@ -1,0 +1,33 @@
+-- Our loader meets all that is demanded. Assumes nothing.
+use Rattle.loader.specs.Step.{startOutcome, stepOf}
+use Rattle.demands.specs.Demands.{MeetsDemands}
+use Rattle.demands.proofs.OneOutside.{outside-holds}
+use Rattle.demands.proofs.OneRefused.{refused-holds, unfit-exactly-holds, stalled-exactly-holds}
+use Rattle.demands.proofs.OneFit.{stays-fit-holds, starts-fit-holds, refused-start-holds}
+use Rattle.demands.proofs.TwoRows.{Rows-hold}
+use Rattle.demands.proofs.TwoCommands.{Commands-hold}
+use Rattle.demands.proofs.TwoWorks.{EraseWorks-holds, ProgramWorks-holds}
+use Rattle.demands.proofs.TwoStarts.{Starts-hold}
+use Rattle.demands.proofs.ThreeHistory.{history-holds}
+use Rattle.demands.proofs.ThreeNamed.{only-named-holds}
+use Rattle.demands.proofs.ReadBack.{ReadBack-holds}
+
+pub meets-demands : MeetsDemands startOutcome stepOf
+meets-demands =
+    record {
+      outside = outside-holds;
+      refused = refused-holds;
+      unfit-exactly = unfit-exactly-holds;
+      stalled-exactly = stalled-exactly-holds;
+      stays-fit = stays-fit-holds;
+      starts-fit = starts-fit-holds;
+      refused-start = refused-start-holds;
+      rows = Rows-hold;
+      commands = Commands-hold;
+      erase-works = EraseWorks-holds;
+      program-works = ProgramWorks-holds;
+      starts = Starts-hold;
+      read-back = ReadBack-holds;
+      history = history-holds;
+      only-named = only-named-holds;
+    }

@@ -1,0 +1,37 @@
+-- The demands leave no choice: whatever loader meets them does what ours does, over any history.
+use Prim.Native.Nat.{ℕ}
+use mathlib.Core.List.{List}
+use mathlib.Core.Path.{_≡_}
+use Rattle.moves.specs.declared.Outcome.{Outcome}
+use Rattle.moves.specs.Answers.{Leaves}
+use Rattle.loader.specs.Step.{startOutcome, stepOf}
+use Rattle.demands.specs.Calls.{Start, Step, heard, countOf, sessionOf, told, Call, begun, called, after}
+use Rattle.demands.specs.Demands.{MeetsDemands}
+
+-- two starts leave the same, field by field
+pub record SameStart (o p : Outcome) : Type 0 where
+  pub answer : told o ≡ told p
+  pub count : o .count ≡ p .count
+  pub session : o .session ≡ p .session
+
+-- so do two calls
+pub record SameLeft (l m : Leaves) : Type 0 where
+  pub answer : heard l ≡ heard m
+  pub count : countOf l ≡ countOf m
+  pub session : sessionOf l ≡ sessionOf m
+  pub flash : l .flash ≡ m .flash
+  pub reply : l .reply ≡ m .reply
+
+-- a loader does what ours does: its start on this flash and these numbers, and every call after any calls behind it
+pub record SameAsOurs (start : Start) (step : Step) (f : List ℕ) (a b part0 part1 : ℕ) : Type 0 where
+  pub begins : SameStart (start f a b part0 part1) (startOutcome f a b part0 part1)
+  pub goes-on :
+      (calls : List Call) (c : Call)
+      → SameLeft (called step (after step (begun start f a b part0 part1) calls) c)
+      (called stepOf (after stepOf (begun startOutcome f a b part0 part1) calls) c)
+
+-- Determine: so does every loader that meets the demands, on any flash and numbers, those that a start refuses too
+abbrev pub Determine : Type 0
+Determine =
+    (start : Start) (step : Step) → MeetsDemands start step → (f : List ℕ) (a b part0 part1 : ℕ)
+    → SameAsOurs start step f a b part0 part1
