@@ -7,7 +7,8 @@ use mathlib.Core.Logic.{_⊎_, ⊎-elim}
 use native.Mathlib.Numerals.{add-one}
 use native.Mathlib.Omega.{arith}
 use lib.ListN.{length, take, drop, getD, set, length-append, length-drop, length-replicate, take-append-drop}
-use lib.Seq.{take-append-le, drop-append-le, drop-append-add, take-at, drop-at, drop-drop, take-take, take-add, getD-take, getD-drop, length-take-le, sets, sets-eq}
+use lib.Seq.{take-append-le, drop-append-le, drop-append-add, take-at, drop-at, drop-drop, take-take, take-add}
+use lib.Seq.{getD-take, getD-drop, length-take-le, sets, sets-eq}
 use Rattle.flash.specs.Flash.{spliced, blank, erased, range, startOf, carried, stores}
 
 pub length-blank : (n : ℕ) → length (blank n) ≡ n
@@ -88,7 +89,8 @@ module _ (f : List ℕ) (at : ℕ) (d : List ℕ) (h : at + length d ≤ length 
   spliced-join e =
       let p : List ℕ = take at f ++ d in
       let n : ℕ = at + length d + length e in
-      let head : take (at + length d) (spliced f at d) ≡ p = take-at p (drop (at + length d) f) (at + length d) (simp length-append (omega (arith, front))) in
+      let long : length p ≡ at + length d = simp length-append (omega (arith, front)) in
+      let head : take (at + length d) (spliced f at d) ≡ p = take-at p (drop (at + length d) f) (at + length d) long in
       let end : n ≡ at + length (d ++ e) = omega (arith, length-append d e) in
       ap (λ (x : List ℕ). x ++ e ++ drop n (spliced f at d)) head
       ∙ ap (λ (x : List ℕ). p ++ e ++ x) (spliced-drop n (omega arith))
@@ -99,7 +101,10 @@ module _ (f : List ℕ) (at : ℕ) (d : List ℕ) (h : at + length d ≤ length 
   pub spliced-other : (k : ℕ) → (k < at) ⊎ (at + length d ≤ k) → getD (spliced f at d) k 0 ≡ getD f k 0
   spliced-other k =
       ⊎-elim
-      (λ lt. sym (getD-take at (spliced f at d) k 0 lt) ∙ ap (λ (l : List ℕ). getD l k 0) (spliced-take at (omega arith)) ∙ getD-take at f k 0 lt)
+      (λ lt.
+      sym (getD-take at (spliced f at d) k 0 lt)
+      ∙ ap (λ (l : List ℕ). getD l k 0) (spliced-take at (omega arith))
+      ∙ getD-take at f k 0 lt)
       (λ le.
       let j : ℕ = k - (at + length d) in
       let e : at + length d + j ≡ k = omega arith in
@@ -118,7 +123,9 @@ spliced-back f at n h =
     ∙ take-append-drop (at + n) f
 
 -- an erased range is all erased
-pub erased-blank : (f : List ℕ) (first count : ℕ) → startOf first + startOf count ≤ length f → range (erased f first count) (startOf first) (startOf count) ≡ blank (startOf count)
+pub erased-blank :
+    (f : List ℕ) (first count : ℕ) → startOf first + startOf count ≤ length f
+    → range (erased f first count) (startOf first) (startOf count) ≡ blank (startOf count)
 unfolding erased
 erased-blank f first count h =
     let e = length-blank (startOf count) in

@@ -49,15 +49,18 @@ module _ (f : List ℕ) (from n : ℕ) (h : from + n ≤ length f) where
 
   -- the address where the range starts may be written otherwise
   module _ (start : ℕ) (e : from ≡ start) where
-    pub ahead-found : (at : ℕ) → at < from + n → (getD f at 0 ≡ 255 → ⊥) → Ahead f from n at → Found.At (record { 0 = at }) ≡ firstIn start (range f start n)
+    pub ahead-found :
+        (at : ℕ) → at < from + n → (getD f at 0 ≡ 255 → ⊥) → Ahead f from n at
+        → Found.At (record { 0 = at }) ≡ firstIn start (range f start n)
     unfolding firstIn
     ahead-found at lt ne a =
-        sym (a .same ∙ ap (firstIn at) (byte-at at (a .low) lt) ∙ rw (ne-eqb (getD f at 0) 255 ne)) ∙ ap (λ (k : ℕ). firstIn k (range f k n)) e
+        sym (a .same ∙ ap (firstIn at) (byte-at at (a .low) lt) ∙ rw (ne-eqb (getD f at 0) 255 ne))
+        ∙ ap (λ (k : ℕ). firstIn k (range f k n)) e
 
     pub ahead-none : (at : ℕ) → from + n ≤ at → Ahead f from n at → Found.Nothing ≡ firstIn start (range f start n)
     unfolding firstIn
     ahead-none at le a =
-        let past : at - from ≡ length (range f from n) = let l = length-range f from n h in let lo = a .low in let hi = a .high in omega arith in
+        let past : at - from ≡ length (range f from n) = omega (arith, length-range f from n h, a .low, a .high) in
         sym
         (a .same
         ∙ ap (λ (k : ℕ). firstIn at (drop k (range f from n))) past
@@ -89,7 +92,9 @@ blank-nothing at zero = refl
 blank-nothing at (suc n) = blank-nothing (at + 1) n
 
 -- the search finds nothing exactly if the range is all erased
-pub nothing-blank : (f : List ℕ) (first n : ℕ) → startOf first + n ≤ length f → searched f first n ≡ Found.Nothing → range f (startOf first) n ≡ blank n
+pub nothing-blank :
+    (f : List ℕ) (first n : ℕ) → startOf first + n ≤ length f → searched f first n ≡ Found.Nothing
+    → range f (startOf first) n ≡ blank n
 unfolding searched
 nothing-blank f first n h e =
     all-erased (startOf first) (range f (startOf first) n) e ∙ ap blank (length-range f (startOf first) n h)

@@ -18,7 +18,9 @@ pub begun : (f : List ℕ) (at : ℕ) (d : List ℕ) → Written f at d f 0
 begun f at d = record { so-far = paste-zero f at d; as-long = refl }
 
 module _ (f : List ℕ) (at : ℕ) (d : List ℕ) (h : at + length d ≤ length f) where
-  pub turned : (g r : List ℕ) (i b : ℕ) → i < length d → b ≡ getD d i 0 → r ≡ set g (at + i) b → Written f at d g i → Written f at d r (i + 1)
+  pub turned :
+      (g r : List ℕ) (i b : ℕ) → i < length d → b ≡ getD d i 0 → r ≡ set g (at + i) b → Written f at d g i
+      → Written f at d r (i + 1)
   turned g r i b lt e s w =
       record {
         so-far =

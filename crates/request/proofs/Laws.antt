@@ -9,7 +9,7 @@ use lib.Dec.{eqb, leb}
 use lib.ListN.{length, getD}
 use borrow.Author.Tests.{eqb-true, leb-true, ne-eqb, lt-ltb, le-ltb}
 use Rattle.session.specs.Codes.{idle, downloadIdle, uploadIdle, error, states, knownState, columnOf}
-use Rattle.session.specs.Fit.{KnownState, is-idle, is-download-idle, is-upload-idle, is-error}
+use Rattle.session.specs.Fit.{is-idle, is-download-idle, is-upload-idle, is-error}
 use Rattle.session.proofs.Tests.{left-of, right-of}
 use Rattle.session.proofs.Laws.{no-state, column-known, at-column}
 use Rattle.request.specs.declared.Setup.{Setup}

@@ -31,10 +31,13 @@ infoStream board =
     ++ bytes4 (startOf (appEnd board))
     ++ bytes4 (startOf (board .a .0))
 
--- the chosen stream: the info bytes, or the prefix and then the range
+-- the flash stream: the prefix and then the range
+abbrev pub rangeStream : Upload → List ℕ → List ℕ
+rangeStream up flash = prefixOf up ++ range flash (startOf (up .first .0)) (up .len)
+
+-- the chosen stream: the info bytes, or the flash stream
 unfoldable pub streamOf : Board → Upload → List ℕ → List ℕ
-streamOf board up flash =
-    cond (eqb (up .choice) infoBytes) (infoStream board) (prefixOf up ++ range flash (startOf (up .first .0)) (up .len))
+streamOf board up flash = cond (eqb (up .choice) infoBytes) (infoStream board) (rangeStream up flash)
 
 -- the next bytes of the stream from a place on: as many as were asked for, or all that are left
 unfoldable pub nextOf : Board → Upload → List ℕ → ℕ → ℕ → List ℕ

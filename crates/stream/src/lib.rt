@@ -9,7 +9,7 @@ ghost use mathlib.Core.List.{_++_};
 ghost use lib.ListN.{length, getD, take, drop};
 ghost use Rattle.flash.specs.Flash.{startOf, Within, range};
 ghost use Rattle.session.specs.Session.{appEnd, infoLength, prefixLength};
-ghost use Rattle.stream.specs.Stream.{headerOf, prefixOf, infoStream, nextOf, Sendable, Sent};
+ghost use Rattle.stream.specs.Stream.{headerOf, infoStream, rangeStream, nextOf, Sendable, Sent};
 
 // The info bytes.
 fn info(board: Board) -> [u8; 20]
@@ -120,7 +120,7 @@ fn read_range(up: Upload, flash: &[u8]) -> &[u8]
 fn send_range(up: Upload, flash: &[u8], place: u32, asked: u32, reply: &mut [u8]) -> u32
     requires { ⌜ Within (now flash) (startOf (up .first .0)) (up .len) ⌝ }
     requires { ⌜ (prefixLength up + up .len < 2 ^ 32) × (place ≤ prefixLength up + up .len) × (asked ≤ length (now reply)) ⌝ }
-    ensures { λ r. ⌜ Sent r (now (reply .entry)) (now (reply .exit)) (take asked (drop place (prefixOf up ++ range (now (flash .entry)) (startOf (up .first .0)) (up .len)))) ⌝ }
+    ensures { λ r. ⌜ Sent r (now (reply .entry)) (now (reply .exit)) (take asked (drop place (rangeStream up (now (flash .entry))))) ⌝ }
 {
     let body = read_range(up, flash);
     if up.prefix == 1 {

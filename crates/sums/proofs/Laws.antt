@@ -25,7 +25,9 @@ side first stop k =
       | no ge ↦ elim (decLt k stop) [ yes lt ↦ inl (omega arith, lt) | no ge′ ↦ inr (inr (omega arith)) ]
     ]
 
-pub blocks-part : (f : List ℕ) (first stop from to : ℕ) → from ≡ startOf first → to ≡ startOf stop → take (to - from) (drop from f) ≡ blocksOf f first stop
+pub blocks-part :
+    (f : List ℕ) (first stop from to : ℕ) → from ≡ startOf first → to ≡ startOf stop
+    → take (to - from) (drop from f) ≡ blocksOf f first stop
 unfolding blocksOf range
 blocks-part f first stop from to p q = ap₂ (λ (x y : ℕ). take (y - x) (drop x f)) p q
 
@@ -45,19 +47,28 @@ fresh-right f a e =
 pub right-unique : (s t : Sums) (f : List ℕ) (a e : ℕ) → Right s f a e → Right t f a e → s ≡ t
 right-unique s t f a e r q =
     ap₂ {C = Sums} (λ (b : List ℕ) (w : ℕ). record { block = b; whole = w })
-    (ext-getD 0 (s .block) (t .block) (r .long ∙ sym (q .long)) (λ k lt. r .each k (let l = r .long in omega arith) ∙ sym (q .each k (let l = r .long in omega arith))))
+    (ext-getD 0 (s .block) (t .block) (r .long ∙ sym (q .long)) λ k lt.
+    let few : k < mostBlocks = omega (arith, r .long) in
+    r .each k few ∙ sym (q .each k few))
     (r .whole ∙ sym (q .whole))
 
 -- if the kept sums were right but for blocks first to stop − 1, the refreshed ones are right
-module _ (kept : Sums) (f : List ℕ) (a e first stop : ℕ) (counted : e ≤ mostBlocks) (low : a ≤ first) (ordered : first ≤ stop) (high : stop ≤ e) (long : length (kept .block) ≡ mostBlocks) where
-  pub refreshed-if : ((k : ℕ) → k < mostBlocks → (k < first) ⊎ (stop ≤ k) → getD (kept .block) k 0 ≡ sumFor f a e k) → Right (refreshed kept f a e first stop) f a e
+module _
+    (kept : Sums) (f : List ℕ) (a e first stop : ℕ)
+    (counted : e ≤ mostBlocks) (low : a ≤ first) (ordered : first ≤ stop) (high : stop ≤ e)
+    (long : length (kept .block) ≡ mostBlocks) where
+  pub refreshed-if :
+      ((k : ℕ) → k < mostBlocks → (k < first) ⊎ (stop ≤ k) → getD (kept .block) k 0 ≡ sumFor f a e k)
+      → Right (refreshed kept f a e first stop) f a e
   unfolding refreshed
   refreshed-if h =
       record {
         long = renewed-length (stop - first) (kept .block) f first ∙ long;
         each = λ k lt.
             ⊎-elim
-            (λ i. renewed-at (stop - first) (kept .block) f first k (i .0) (omega arith) (omega arith) ∙ sym (sum-inside f a e k (omega arith) (omega arith)))
+            (λ i.
+            renewed-at (stop - first) (kept .block) f first k (i .0) (omega arith) (omega arith)
+            ∙ sym (sum-inside f a e k (omega arith) (omega arith)))
             (λ o.
             renewed-other (stop - first) (kept .block) f first k (⊎-elim (λ l. inl l) (λ g. inr (omega arith)) o) ∙ h k lt o)
             (side first stop k);
@@ -69,21 +80,33 @@ same-sum : (f g : List ℕ) (a e first stop k : ℕ) → SameBut f g first stop 
 unfolding sumFor blockSum
 same-sum f g a e first stop k s o = ap (λ (l : List ℕ). cond (among a e k) (crcOf l) 0) (sym (s .apart k o))
 
-pub refreshed-right : (kept : Sums) (f g : List ℕ) (a e first stop : ℕ) → e ≤ mostBlocks → a ≤ first → first ≤ stop → stop ≤ e → Right kept f a e → SameBut f g first stop → Right (refreshed kept g a e first stop) g a e
+pub refreshed-right :
+    (kept : Sums) (f g : List ℕ) (a e first stop : ℕ) → e ≤ mostBlocks → a ≤ first → first ≤ stop → stop ≤ e
+    → Right kept f a e → SameBut f g first stop → Right (refreshed kept g a e first stop) g a e
 refreshed-right kept f g a e first stop counted low ordered high r s =
     refreshed-if kept g a e first stop counted low ordered high (r .long) (λ k lt o. r .each k lt ∙ same-sum f g a e first stop k s o)
 
 -- with nothing kept, a refresh of all application blocks gives the fresh sums
-pub fresh-from-none : (none : Sums) (f : List ℕ) (a e : ℕ) → none .block ≡ replicate mostBlocks 0 → a ≤ e → e ≤ mostBlocks → refreshed none f a e a e ≡ freshSums f a e
+pub fresh-from-none :
+    (none : Sums) (f : List ℕ) (a e : ℕ) → none .block ≡ replicate mostBlocks 0 → a ≤ e → e ≤ mostBlocks
+    → refreshed none f a e a e ≡ freshSums f a e
 fresh-from-none none f a e z ordered counted =
-    let zero-at : (k : ℕ) → k < mostBlocks → getD (none .block) k 0 ≡ 0 = λ k lt. ap (λ (l : List ℕ). getD l k 0) z ∙ getD-replicate mostBlocks k 0 0 lt in
+    let zero-at : (k : ℕ) → k < mostBlocks → getD (none .block) k 0 ≡ 0 =
+    λ k lt. ap (λ (l : List ℕ). getD l k 0) z ∙ getD-replicate mostBlocks k 0 0 lt
+    in
     right-unique (refreshed none f a e a e) (freshSums f a e) f a e
     (refreshed-if none f a e a e counted (omega arith) ordered (omega arith) (ap length z ∙ length-replicate {A = ℕ} mostBlocks 0)
     (λ k lt o. zero-at k lt ∙ sym (sum-outside f a e k o)))
     (fresh-right f a e)
 
 -- a splice whose bytes lie in blocks first to stop − 1 changes those alone
-pub spliced-same : (f : List ℕ) (at : ℕ) (d : List ℕ) (first stop : ℕ) → at + length d ≤ length f → startOf first ≤ at → at + length d ≤ startOf stop → SameBut f (spliced f at d) first stop
+pub spliced-same :
+    (f : List ℕ) (at : ℕ) (d : List ℕ) (first stop : ℕ) → at + length d ≤ length f
+    → startOf first ≤ at → at + length d ≤ startOf stop → SameBut f (spliced f at d) first stop
 unfolding blocksOf
 spliced-same f at d first stop h low high =
-    record { apart = λ k o. spliced-apart f at d h (startOf k) (startOf (k + 1) - startOf k) (⊎-elim (λ l. inl (omega arith)) (λ g. inr (omega arith)) o) }
+    record {
+      apart = λ k o.
+          spliced-apart f at d h (startOf k) (startOf (k + 1) - startOf k)
+          (⊎-elim (λ l. inl (omega arith)) (λ g. inr (omega arith)) o);
+    }

@@ -37,7 +37,9 @@ renewed-at (suc n) l f k j lo hi in-list =
     ]
 
 -- the loop: what is left to make anew, after one more block
-pub renewed-turn : (l f : List ℕ) (k high v : ℕ) → k < high → v ≡ blockSum f k → renewed (set l k v) f (k + 1) (high - (k + 1)) ≡ renewed l f k (high - k)
+pub renewed-turn :
+    (l f : List ℕ) (k high v : ℕ) → k < high → v ≡ blockSum f k
+    → renewed (set l k v) f (k + 1) (high - (k + 1)) ≡ renewed l f k (high - k)
 unfolding renewed
 renewed-turn l f k high v lt e =
     let n : ℕ = high - (k + 1) in

@@ -1,6 +1,6 @@
 -- The list of a function's values, by its elements; and which block numbers are among some. Assumes nothing.
 use Prim.Native.Nat.{ℕ, zero, suc, _+_, _≤_, _<_}
-use mathlib.Core.Bool.{Bool, true, false, _&&_}
+use mathlib.Core.Bool.{Bool, true, false, _&&_, and-false}
 use mathlib.Core.List.{List}
 use mathlib.Core.Logic.{_⊎_, ⊎-elim}
 use mathlib.Core.Path.{_≡_, refl, sym, ap, _∙_}
@@ -29,7 +29,9 @@ values-at f n i h = let e : 0 + i ≡ i = omega arith in values-from f 0 n i h �
 -- a list of n numbers that are the values of f is the list of them
 pub values-of : (f : ℕ → ℕ) (n : ℕ) (l : List ℕ) → length l ≡ n → ((i : ℕ) → i < n → getD l i 0 ≡ f i) → l ≡ values f 0 n
 values-of f n l e h =
-    ext-getD 0 l (values f 0 n) (e ∙ sym (values-length f 0 n)) (λ i lt. let lt′ : i < n = omega arith in h i lt′ ∙ sym (values-at f n i lt′))
+    ext-getD 0 l (values f 0 n) (e ∙ sym (values-length f 0 n)) λ i lt.
+    let lt′ : i < n = omega arith in
+    h i lt′ ∙ sym (values-at f n i lt′)
 
 -- two functions with the same values have the same list
 pub values-same : (f g : ℕ → ℕ) (n : ℕ) → ((i : ℕ) → i < n → f i ≡ g i) → values f 0 n ≡ values g 0 n
@@ -40,8 +42,6 @@ is-among first stop k lo hi = ap (λ (b : Bool). b && ltb k stop) (le-leb first 
 
 pub not-among : (first stop k : ℕ) → (k < first) ⊎ (stop ≤ k) → among first stop k ≡ false
 not-among first stop k =
-    ⊎-elim (λ lt. ap (λ (b : Bool). b && ltb k stop) (lt-leb first k lt)) (λ le. ap (λ (b : Bool). leb first k && b) (le-ltb k stop le) ∙ neither (leb first k))
-  where
-    neither : (b : Bool) → (b && false) ≡ false
-    neither true = refl
-    neither false = refl
+    ⊎-elim
+    (λ lt. ap (λ (b : Bool). b && ltb k stop) (lt-leb first k lt))
+    (λ le. ap (λ (b : Bool). leb first k && b) (le-ltb k stop le) ∙ and-false (leb first k))

@@ -36,11 +36,13 @@ loop-less c = omega arith
 
 loop-again : tie.Need-loop-again Inv-loop μ-loop
 loop-again c =
-    let l = c .before .before .before .before .before .before .loop in
-    let s = c .before .before .before .before .before .before .before .before .before in (
+    let stored = c .before .before in
+    let turn = stored .before .before .before .before in
+    let l = turn .loop in
+    let s = turn .before .before .before in (
       omega arith,
       turned (s .args .flash .now) (s .args .at .0) (s .args .bytes .now) (omega arith) _ _ (l .i) _ (omega arith) refl
-          (c .before .before .store .ensures)
+          (stored .store .ensures)
           (l .inv .1),
     )
 

@@ -1,4 +1,5 @@
--- Both loops keep that what is left of the range holds the answer (Unerased); the label is left at the first byte that is not erased. Assumes nothing.
+-- Both loops keep that what is left of the range holds the answer (Unerased); the label is left at the first byte that is not erased.
+-- Assumes nothing.
 use Prim.Native.Nat.{_+_, _-_, _≤_, _<_}
 use mathlib.Core.Path.{_≡_, refl, _∙_}
 use mathlib.Core.Logic.{⊎-elim}
@@ -9,7 +10,8 @@ use Rattle.flash.proofs.search_from.Statement.{statement}
 use Rattle.flash.proofs.search_from.Tie as tie
 
 abbrev Inv-loop : tie.InvT-loop
-Inv-loop flash n at₀ end found₀ stop at found = (found ≡ Found.Nothing) × (at₀ < stop) × (at ≤ stop) × (stop ≤ end) × Ahead flash (end - n) n at
+Inv-loop flash n at₀ end found₀ stop at found =
+    (found ≡ Found.Nothing) × (at₀ < stop) × (at ≤ stop) × (stop ≤ end) × Ahead flash (end - n) n at
 
 abbrev μ-loop : tie.MeasureT-loop
 μ-loop flash n at₀ end found₀ stop at found = stop - at
@@ -62,8 +64,9 @@ loop-less c = omega arith
 
 loop-again : tie.Need-loop-again Inv-loop μ-loop Inv-search μ-search
 loop-again c =
-    let l = c .before .before .before .loop in
-    let s = c .before .before .before .before .before .before .before in (
+    let turn = c .before .before .before in
+    let l = turn .loop in
+    let s = turn .before .before .before .before in (
       l .inv .0,
       l .inv .1,
       omega arith,
@@ -74,14 +77,22 @@ loop-again c =
 returns : tie.Need-returns Inv-loop μ-loop Inv-search μ-search
 returns c =
     let l = c .before .search in
-    let s = c .before .before in
-    l .inv .0 ∙ ahead-none (s .args .flash .now) (s .args .from .0 + s .args .n - s .args .n) (s .args .n) (omega arith) (s .args .from .0) (omega arith) (l .at) (omega arith) (l .inv .1)
+    let a = c .before .before .args in
+    let n = a .n in
+    let from = a .from .0 in
+    l .inv .0
+    ∙ ahead-none (a .flash .now) (from + n - n) n (omega arith) from (omega arith) (l .at) (omega arith) (l .inv .1)
 
 returns-2 : tie.Need-returns-2 Inv-loop μ-loop Inv-search μ-search
 returns-2 c =
-    let l = c .before .before .before .loop in
-    let s = c .before .before .before .before .before .before .before in
-    ahead-found (s .args .flash .now) (s .args .from .0 + s .args .n - s .args .n) (s .args .n) (omega arith) (s .args .from .0) (omega arith) (l .at) (omega arith) (c .if2 .taken) (l .inv .4)
+    let turn = c .before .before .before in
+    let l = turn .loop in
+    let a = turn .before .before .before .before .args in
+    let n = a .n in
+    let from = a .from .0 in
+    ahead-found (a .flash .now) (from + n - n) n (omega arith) from (omega arith) (l .at) (omega arith)
+    (c .if2 .taken)
+    (l .inv .4)
 
 pub search-from-spec : {M : Type 1} → statement M
 search-from-spec =

@@ -30,13 +30,15 @@ loop-less c = omega arith
 
 loop-again : tie.Need-loop-again Inv-loop μ-loop
 loop-again c =
-    let l = c .before .before .before .before .before .loop in
-    let s = c .before .before .before .before .before .before .before in
+    let stored = c .before .before in
+    let turn = stored .before .before .before in
+    let l = turn .loop in
+    let s = turn .before .before in
     let e = length-blank (s .args .n) in (
       omega arith,
       turned (s .args .flash .now) (s .args .at .0) (blank (s .args .n)) (omega arith) _ _ (l .i) 255 (omega arith)
           (blank-byte (s .args .n) (l .i) (omega arith))
-          (c .before .before .store .ensures)
+          (stored .store .ensures)
           (l .inv .1),
     )
 

@@ -48,7 +48,9 @@ returns c =
     join
     (join
     (join (join (join (s .before .low2 .ensures) (s .low22 .ensures)) (p .before .low4 .ensures)) (p .low42 .ensures))
-    (e .low43 .ensures ∙ ap (λ (at : ℕ). bytes4 at) (e .before .start .ensures ∙ ap (λ (k : ℕ). startOf k) (e .before .before .app-end .ensures))))
+    (e .low43 .ensures
+    ∙ ap (λ (at : ℕ). bytes4 at)
+    (e .before .start .ensures ∙ ap (λ (k : ℕ). startOf k) (e .before .before .app-end .ensures))))
     (c .low44 .ensures ∙ ap (λ (at : ℕ). bytes4 at) (c .before .start2 .ensures))
 
 pub info-spec : {M : Type 1} → statement M

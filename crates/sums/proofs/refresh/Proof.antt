@@ -10,7 +10,10 @@ use Rattle.sums.proofs.refresh.Statement.{statement}
 use Rattle.sums.proofs.refresh.Tie as tie
 
 abbrev Inv-loop : tie.InvT-loop
-Inv-loop flash a e sums₀ low high k₀ sums k = (low ≤ k) × (k ≤ high) × (renewed (sums .block) flash k (high - k) ≡ renewed (sums₀ .block) flash low (high - low))
+Inv-loop flash a e sums₀ low high k₀ sums k =
+    (low ≤ k)
+    × (k ≤ high)
+    × (renewed (sums .block) flash k (high - k) ≡ renewed (sums₀ .block) flash low (high - low))
 
 abbrev μ-loop : tie.MeasureT-loop
 μ-loop flash a e sums₀ low high k₀ sums k = high - k
