@@ -59,7 +59,7 @@ static uint8_t *lend(struct loan *l, const void *from, size_t len)
     if (!len)
         l->at++;
 #else
-    enum { SPAN = 2 * 65536 };
+    enum { SPAN = (ROOM + DATA) / GUARD * GUARD + GUARD };
     if (!l->pages) {
         l->pages = mmap(NULL, SPAN + 2 * GUARD, PROT_NONE, MAP_PRIVATE | MAP_ANONYMOUS, -1, 0);
         if (l->pages == MAP_FAILED || mprotect(l->pages + GUARD, SPAN, PROT_READ | PROT_WRITE))
