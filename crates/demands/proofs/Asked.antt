@@ -12,7 +12,8 @@ use Rattle.flash.specs.Flash.{startOf}
 use Rattle.session.specs.Rules.{fitOf}
 use Rattle.session.proofs.Laws.{fit-facts, facts-fit}
 use Rattle.session.proofs.Tests.{left-of, right-of}
-use Rattle.request.specs.Request.{wordAt, setupOf, dataAsked}
+use Rattle.numbers.specs.Numbers.{wordAt}
+use Rattle.request.specs.Request.{setupOf, dataAsked}
 use Rattle.loader.specs.Step.{ready}
 use Rattle.demands.specs.Calls.{Call, Site}
 use Rattle.demands.specs.Asked.{SaysDnload, Prepared}

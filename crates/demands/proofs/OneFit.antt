@@ -23,14 +23,16 @@ use Rattle.session.specs.declared.Upload.{Upload}
 use Rattle.session.specs.declared.Session.{Session}
 use Rattle.session.proofs.Laws.{fit-kept, kept-fit, fit-facts, facts-fit, end-in-flash, split-facts, zeros-unfit, fresh-fit}
 use Rattle.session.proofs.Tests.{left-of, right-of, or-unless, where-true, pick-most}
-use Rattle.request.specs.Request.{wordAt, wLength}
+use Rattle.numbers.specs.Numbers.{wordAt, longAt}
+use Rattle.request.specs.Request.{wLength}
 use Rattle.stream.proofs.Laws.{next-length}
 use Rattle.moves.specs.declared.Answer.{Answer}
 use Rattle.moves.specs.declared.Outcome.{Outcome}
 use Rattle.moves.specs.Answers.{Leaves, answerNumber, outcome}
 use Rattle.moves.specs.Moves.{rewound, movedTo, toIdle, toError, stallOf, unfitOf, faultOf, resetOf}
-use Rattle.command.specs.Ready.{Ready, Place}
-use Rattle.command.specs.Download.{longAt, wroteOf, infoOf, binOf, prefixFor}
+use Rattle.jobs.specs.Job.{Place}
+use Rattle.command.specs.Ready.{Ready}
+use Rattle.command.specs.Download.{infoOf, binOf, prefixFor}
 use Rattle.command.proofs.Laws.{ready-place}
 use Rattle.loader.specs.Reply.{entered, polled, getstatusOf, getstateOf, queryOf, answered}
 use Rattle.loader.specs.Upload.{placeOf, answerOf, uploadEnds, uploadingAt, uploadedOf, uploadOf}
@@ -42,6 +44,7 @@ use Rattle.demands.specs.One.{not-erased, out-of-range, bytes-missing, b
 use Rattle.demands.proofs.Ways.{pick, every-way}
 use Rattle.demands.proofs.OneOutside.{piece-place}
 use Rattle.demands.proofs.OneRefused.{refused-holds, unfit-exactly-holds}
+use Rattle.demands.proofs.Left.{wroteOf}
 
 -- an upload at the stream's first byte keeps its rule in every state
 at-start : (p : Phase) (u : Upload) → u .place ≡ 0 → uploadRule p u ≡ true

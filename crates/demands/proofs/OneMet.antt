@@ -11,7 +11,8 @@ use Rattle.session.specs.Session.{appEnd, freshOf}
 use Rattle.session.specs.Fit.{Fit}
 use Rattle.session.specs.declared.Board.{Board}
 use Rattle.session.proofs.Laws.{fit-facts, fresh-fit}
-use Rattle.request.specs.Request.{wordAt, allowedOf, formOf, setupOf}
+use Rattle.numbers.specs.Numbers.{wordAt}
+use Rattle.request.specs.Request.{allowedOf, formOf, setupOf}
 use Rattle.request.specs.declared.Request.{Request}
 use Rattle.moves.specs.Moves.{stallOf, faultOf, resetOf}
 use Rattle.command.specs.Download.{wellFormed, carriedOut, commandOf, dnloadOf}

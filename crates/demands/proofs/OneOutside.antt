@@ -13,10 +13,11 @@ use Rattle.session.specs.Rules.{running}
 use Rattle.session.specs.declared.Board.{Board}
 use Rattle.session.specs.declared.Session.{Session}
 use Rattle.session.proofs.Laws.{fit-facts}
-use Rattle.request.specs.Request.{wordAt}
+use Rattle.numbers.specs.Numbers.{wordAt, longAt}
 use Rattle.moves.specs.Answers.{Leaves}
-use Rattle.command.specs.Ready.{Ready, Place}
-use Rattle.command.specs.Download.{longAt, wroteOf, infoOf, binOf}
+use Rattle.jobs.specs.Job.{Place}
+use Rattle.command.specs.Ready.{Ready}
+use Rattle.command.specs.Download.{infoOf, binOf}
 use Rattle.command.proofs.Laws.{ready-within, ready-place}
 use Rattle.moves.specs.Moves.{stallOf, unfitOf, faultOf, resetOf}
 use Rattle.loader.specs.Reply.{getstatusOf, getstateOf, queryOf, answered}
@@ -25,6 +26,7 @@ use Rattle.loader.specs.Step.{stepOf}
 use Rattle.demands.specs.Calls.{called, next}
 use Rattle.demands.specs.One.{Untouched, Outside}
 use Rattle.demands.proofs.Ways.{Loads, every-way}
+use Rattle.demands.proofs.Left.{wroteOf}
 
 same : (b : Board) (f : List ℕ) → Untouched b f f
 same b f = record { as-long = refl; as-before = λ k o. refl }

@@ -16,7 +16,7 @@ use Rattle.request.specs.Request.{wLength, requestOf, allowedOf}
 use Rattle.request.specs.declared.Request.{Request}
 use Rattle.moves.specs.Answers.{Leaves, leaves}
 use Rattle.moves.specs.Moves.{movedTo, toError, stallOf, unfitOf, faultOf, resetOf}
-use Rattle.command.specs.Download.{wroteOf, infoOf, binOf}
+use Rattle.command.specs.Download.{infoOf, binOf}
 use Rattle.loader.specs.Reply.{getstatusOf, getstateOf, queryOf, answered}
 use Rattle.loader.specs.Upload.{uploadOf}
 use Rattle.loader.specs.Step.{ready, served, stepOf}
@@ -27,6 +27,7 @@ use Rattle.demands.specs.One.{UnfitExactly, StalledExactly}
 use Rattle.demands.proofs.Ways.{pick, every-way}
 use Rattle.demands.proofs.Asked.{prepared-ready, ready-prepared}
 use Rattle.demands.proofs.TwoForms.{request-form, no-request, asks-stalled}
+use Rattle.demands.proofs.Left.{wroteOf}
 
 -- a session with these groups is settled
 settled :

@@ -17,11 +17,12 @@ use Rattle.command.specs.Ready.{Ready}
 use Rattle.command.specs.Download.{dnloadOf}
 use Rattle.loader.specs.Reply.{getstatusOf}
 use Rattle.loader.specs.Upload.{uploadOf}
-use Rattle.loader.specs.Step.{ready, served, stepOf, withReply, withFlash}
+use Rattle.loader.specs.Step.{ready, served, stepOf, withReply}
 use Rattle.demands.specs.Calls.{sessionOf, Call, Site, called, next}
 use Rattle.demands.proofs.Asked.{prepared-from, prepared-ready}
 use Rattle.demands.specs.ReadBack.{Host, asks, replied, wasTaken, ranAfter, run}
 use Rattle.demands.specs.ReadBack.{setupFor, dnload, upload, poll, abort}
+use Rattle.demands.proofs.Left.{withFlash}
 
 -- a session and the flash that it speaks of
 abbrev pub siteOf : Session → List ℕ → Site

@@ -19,12 +19,14 @@ use Rattle.session.specs.Session.{downOf, noDownload, upOf, appEnd, flashStream
 use Rattle.session.specs.Rules.{splitRule, inApplication}
 use Rattle.session.specs.declared.Session.{Session}
 use Rattle.session.proofs.Laws.{end-in-flash, inside-facts}
-use Rattle.request.specs.Request.{allowedOf, wordAt}
+use Rattle.numbers.specs.Numbers.{wordAt, longAt}
+use Rattle.numbers.proofs.Laws.{four-bytes}
+use Rattle.request.specs.Request.{allowedOf}
 use Rattle.stream.specs.Stream.{headerOf}
-use Rattle.stream.proofs.Laws.{four-bytes}
 use Rattle.moves.specs.Answers.{Done, leaves}
 use Rattle.moves.specs.Moves.{movedTo, takenOf}
-use Rattle.command.specs.Download.{longAt, nothing, allErased, sumsAfter, wroteOf, progOf, wellFormed, carriedOut, pieceOf, dnloadOf}
+use Rattle.jobs.specs.Job.{sumsAfter}
+use Rattle.command.specs.Download.{nothing, allErased, progOf, wellFormed, carriedOut, pieceOf, dnloadOf}
 use Rattle.loader.specs.Reply.{entered, polled}
 use Rattle.loader.specs.Step.{withReply, stepOf}
 use Rattle.demands.specs.Calls.{Site, called}
@@ -33,6 +35,7 @@ use Rattle.demands.proofs.ReadBackCalls.{siteOf, on-taken, is-yes, is-n
 use Rattle.demands.proofs.ReadBackSessions.{inState, atIdle, atPiece, atDownload, idle-fit, piece-fit, download-fit}
 use Rattle.demands.proofs.ReadBackParts.{polled-on, command-called, near}
 use Rattle.demands.proofs.ReadBackUploads.{Pieces, none, more}
+use Rattle.demands.proofs.Left.{wroteOf}
 
 -- what the downloads of some bytes to an address leave: all taken, the bytes in their places, and none left to come
 pub record Filled (r : Ran Unit) (g : List ℕ) (at : ℕ) (xs : List ℕ) : Type 0 where

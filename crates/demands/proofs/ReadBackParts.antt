@@ -15,12 +15,13 @@ use Rattle.session.specs.Rules.{splitRule, inApplication}
 use Rattle.session.specs.declared.Board.{Board}
 use Rattle.session.specs.declared.Session.{Session}
 use Rattle.session.proofs.Laws.{fit-kept, split-facts, end-in-flash, inside-facts}
-use Rattle.request.specs.Request.{allowedOf, wordAt}
-use Rattle.stream.proofs.Laws.{four-bytes}
+use Rattle.numbers.specs.Numbers.{wordAt, longAt}
+use Rattle.numbers.proofs.Laws.{four-bytes}
+use Rattle.request.specs.Request.{allowedOf}
 use Rattle.moves.specs.Answers.{Done, leaves}
 use Rattle.moves.specs.Moves.{movedTo, toSync, takenOf}
 use Rattle.command.specs.Ready.{Ready}
-use Rattle.command.specs.Download.{longAt, dnloadOf, commandOf, carriedOut, wellFormed, readOf, eraseOf}
+use Rattle.command.specs.Download.{dnloadOf, commandOf, carriedOut, wellFormed, readOf, eraseOf}
 use Rattle.command.proofs.Laws.{long-enough}
 use Rattle.loader.specs.Reply.{answered, polled, getstatusOf}
 use Rattle.loader.specs.Step.{withReply, stepOf}

@@ -20,11 +20,12 @@ use Rattle.moves.specs.Answers.{Replied}
 use Rattle.command.specs.Ready.{Ready}
 use Rattle.loader.specs.Reply.{answered}
 use Rattle.loader.specs.Upload.{placeOf, answerOf, uploadEnds, uploadingAt, uploadedOf, uploadOf}
-use Rattle.loader.specs.Step.{withFlash, stepOf}
+use Rattle.loader.specs.Step.{stepOf}
 use Rattle.demands.specs.ReadBack.{Host, ends, asks, Ran, run, upload, keep, joined, gathers, answersOf}
 use Rattle.demands.proofs.ReadBackCalls.{siteOf, on-taken, is-no, upload-called}
 use Rattle.demands.proofs.ReadBackSessions.{inState, image, image-streamed, atIdle, atUpload}
 use Rattle.demands.proofs.ReadBackSessions.{idle-fit, upload-fit}
+use Rattle.demands.proofs.Left.{withFlash}
 
 -- answers that make up some bytes: none is empty, none has more than 1,024, and only the last may have fewer
 pub data Pieces : List (List ℕ) → List ℕ → Type 0 where

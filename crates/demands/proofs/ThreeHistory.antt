@@ -18,12 +18,13 @@ use Rattle.session.specs.Rules.{inApplication}
 use Rattle.session.specs.declared.Board.{Board}
 use Rattle.session.specs.declared.Session.{Session}
 use Rattle.session.proofs.Laws.{inside-facts}
-use Rattle.request.specs.Request.{wordAt}
+use Rattle.numbers.specs.Numbers.{wordAt, longAt}
 use Rattle.moves.specs.declared.Outcome.{Outcome}
 use Rattle.moves.specs.Answers.{Leaves}
 use Rattle.moves.specs.Moves.{movedTo, stallOf, unfitOf, faultOf, resetOf}
-use Rattle.command.specs.Ready.{Ready, Place}
-use Rattle.command.specs.Download.{longAt, sumsAfter, wroteOf, infoOf, binOf}
+use Rattle.jobs.specs.Job.{Place, sumsAfter}
+use Rattle.command.specs.Ready.{Ready}
+use Rattle.command.specs.Download.{infoOf, binOf}
 use Rattle.command.proofs.Laws.{ready-split, ready-within, ready-place, ready-range}
 use Rattle.loader.specs.Reply.{polled, getstatusOf, getstateOf, queryOf, answered}
 use Rattle.loader.specs.Upload.{uploadEnds, uploadingAt, uploadedOf, uploadOf}
@@ -34,6 +35,7 @@ use Rattle.demands.specs.Three.{Held, History}
 use Rattle.demands.proofs.Ways.{pick, every-way}
 use Rattle.demands.proofs.OneOutside.{outside-holds, piece-place}
 use Rattle.demands.proofs.OneFit.{stays-fit-holds, starts-fit-holds, started}
+use Rattle.demands.proofs.Left.{wroteOf}
 
 -- no bytes change nothing
 empty-spliced : (f : List ℕ) (at : ℕ) (bytes : List ℕ) → at ≤ length f → length bytes ≡ 0 → spliced f at bytes ≡ f

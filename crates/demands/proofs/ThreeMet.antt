@@ -7,12 +7,14 @@ use Rattle.session.specs.Session.{appEnd, streamLength, wholeUpload, freshOf}
 use Rattle.session.specs.Rules.{fitOf}
 use Rattle.request.specs.Request.{formOf, setupOf, dataAsked, allowedOf}
 use Rattle.moves.specs.Moves.{movedTo}
-use Rattle.command.specs.Download.{allErased, sumsAfter, wroteOf, progOf, wellFormed, carriedOut, commandOf, pieceOf, dnloadOf}
+use Rattle.jobs.specs.Job.{sumsAfter}
+use Rattle.command.specs.Download.{allErased, progOf, wellFormed, carriedOut, commandOf, pieceOf, dnloadOf}
 use Rattle.loader.specs.Reply.{answered, entered, polled, pollTime, getstatusOf}
 use Rattle.loader.specs.Step.{startable, freshStart, startOutcome, ready, served, stepOf}
 use Rattle.demands.specs.Calls.{begun, Call, Site, called, next, after}
 use Rattle.demands.specs.Three.{NamedRange, none, commandNames, tookDnload, mayChange, noteOf, notedAfter}
 use Rattle.demands.proofs.Small.{smallFlash, lent}
+use Rattle.demands.proofs.Left.{wroteOf}
 
 -- PROG of two bytes in block 1, the first of them with it; a poll; the second byte
 abbrev pub prog : Call

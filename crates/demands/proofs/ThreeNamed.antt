@@ -18,12 +18,13 @@ use Rattle.session.specs.Rules.{running}
 use Rattle.session.specs.declared.Phase.{Phase}
 use Rattle.session.specs.declared.Session.{Session}
 use Rattle.session.proofs.Tests.{right-of, either}
-use Rattle.request.specs.Request.{wordAt, requestOf}
+use Rattle.numbers.specs.Numbers.{wordAt, longAt}
+use Rattle.request.specs.Request.{requestOf}
 use Rattle.request.specs.declared.Request.{Request}
 use Rattle.moves.specs.declared.Outcome.{Outcome}
 use Rattle.moves.specs.Answers.{Leaves}
 use Rattle.moves.specs.Moves.{movedTo, stallOf, unfitOf, faultOf, resetOf}
-use Rattle.command.specs.Download.{longAt, wroteOf, infoOf, binOf}
+use Rattle.command.specs.Download.{infoOf, binOf}
 use Rattle.command.proofs.Laws.{ready-within, ready-range}
 use Rattle.loader.specs.Reply.{entered, polled, getstatusOf, getstateOf, queryOf, answered}
 use Rattle.loader.specs.Upload.{uploadEnds, uploadingAt, uploadedOf, uploadOf}
@@ -35,6 +36,7 @@ use Rattle.demands.specs.Three.{ChangesNamed, mayChange, noteOf, notedAf
 use Rattle.demands.proofs.Ways.{pick, every-way}
 use Rattle.demands.proofs.OneOutside.{piece-place}
 use Rattle.demands.proofs.OneFit.{started, entered-sync, entered-manifest, entered-same}
+use Rattle.demands.proofs.Left.{wroteOf}
 
 no-right : (a b : Bool) → b ≡ false → (a && b) ≡ false
 no-right true b e = e

@@ -18,7 +18,8 @@ use Rattle.request.specs.Request.{setupOf, formOf, requestOf, wLength, dataAske
 use Rattle.moves.specs.declared.Answer.{Answer}
 use Rattle.moves.specs.Answers.{Leaves, outcome, leaves}
 use Rattle.moves.specs.Moves.{movedTo, stallOf, faultOf}
-use Rattle.command.specs.Download.{allErased, sumsAfter, wroteOf, progOf, eraseOf, wellFormed}
+use Rattle.jobs.specs.Job.{sumsAfter}
+use Rattle.command.specs.Download.{allErased, progOf, eraseOf, wellFormed}
 use Rattle.command.specs.Download.{carriedOut, commandOf, closedOf, pieceOf, dnloadOf}
 use Rattle.loader.specs.Reply.{answered, entered, polled, pollTime, getstatusOf, getstateOf, queryOf}
 use Rattle.loader.specs.Step.{startable, freshStart, startOutcome, served, stepOf}
@@ -29,6 +30,7 @@ use Rattle.demands.specs.Tied.{Case, Meets, Expected, All, none, _and_, 
 use Rattle.demands.specs.Tied.{eraseAll, wiped, marred, progOne, progZero, seven, close, case, deskCases}
 use Rattle.demands.proofs.Bytes.{erased-length, erased-part, not-erased, spliced-none, spliced-byte}
 use Rattle.demands.proofs.TwoLaws.{sound-served, sound-stalled, next-from}
+use Rattle.demands.proofs.Left.{wroteOf}
 
 -- no call, and one call more
 ended : (at : Site) → after stepOf at [] ≡ at

@@ -12,9 +12,10 @@ use Rattle.session.specs.Codes.{knownState}
 use Rattle.session.specs.Fit.{OneOfSix}
 use Rattle.session.proofs.Laws.{cases-state}
 use Rattle.session.proofs.Tests.{left-of, right-of, either}
+use Rattle.numbers.specs.Numbers.{wordAt}
 use Rattle.moves.specs.Answers.{leaves}
 use Rattle.moves.specs.Moves.{stallOf}
-use Rattle.request.specs.Request.{wordAt, setupOf, hasForm, inForm, formOf, requestOf, wLength, allowedOf}
+use Rattle.request.specs.Request.{setupOf, hasForm, inForm, formOf, requestOf, wLength, allowedOf}
 use Rattle.request.specs.declared.Request.{Request}
 use Rattle.request.proofs.Laws.{form-right, form-facts, dnload-asked}
 use Rattle.loader.specs.Step.{served, stepOf}

@@ -18,13 +18,14 @@ use Rattle.moves.specs.Moves.{faultOf, stallOf}
 use Rattle.command.specs.Download.{pieceOf, closedOf}
 use Rattle.loader.specs.Reply.{answered, entered, polled, pollTime, getstatusOf, getstateOf, queryOf}
 use Rattle.loader.specs.Upload.{placeOf, answerOf, uploadEnds, uploadingAt, uploadedOf, uploadOf}
-use Rattle.loader.specs.Step.{served, withFlash, stepOf}
+use Rattle.loader.specs.Step.{served, stepOf}
 use Rattle.demands.specs.Calls.{countOf, Call, Site, called}
 use Rattle.demands.specs.Asked.{stateOf, Prepared, Asks, NoRequest}
 use Rattle.demands.specs.Two.{Unchanged, Moves, Reports, StartsAt, nextBytes, Uploads, Rows}
 use Rattle.demands.proofs.TwoForms.{asks-served, asks-stalled, asks-brings}
 use Rattle.demands.proofs.TwoOutcomes.{so-answers, so-session, so-flash, so-enters, so-unchanged, so-moves}
 use Rattle.demands.proofs.TwoDownloads.{piece-leaves}
+use Rattle.demands.proofs.Left.{withFlash}
 
 -- DNLOAD of no bytes
 module _ (at : Site) (c : Call) (k : Asks at c Request.Dnload 0) (loading : stateOf at ≡ 5) where

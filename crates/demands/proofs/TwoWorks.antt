@@ -20,7 +20,8 @@ use Rattle.request.specs.declared.Request.{Request}
 use Rattle.moves.specs.declared.Answer.{Answer}
 use Rattle.moves.specs.Answers.{leaves}
 use Rattle.moves.specs.Moves.{movedTo, toSync, takenOf}
-use Rattle.command.specs.Download.{sumsAfter, wroteOf, progOf, eraseOf, carriedOut, pieceOf}
+use Rattle.jobs.specs.Job.{sumsAfter}
+use Rattle.command.specs.Download.{progOf, eraseOf, carriedOut, pieceOf}
 use Rattle.loader.specs.Step.{withReply, stepOf}
 use Rattle.demands.specs.Calls.{Call, Site, called}
 use Rattle.demands.specs.Asked.{Prepared, Asks}
@@ -29,6 +30,7 @@ use Rattle.demands.proofs.Bytes.{spliced-byte, erased-length, erased-by
 use Rattle.demands.proofs.TwoForms.{asks-brings}
 use Rattle.demands.proofs.TwoOutcomes.{so-answers, so-session, so-flash, so-enters, at-start}
 use Rattle.demands.proofs.TwoDownloads.{legal-in, command-leaves, piece-leaves}
+use Rattle.demands.proofs.Left.{wroteOf}
 
 -- a legal range lies in flash
 pub legal-fits : (at : Site) (c : Call) (block len : ℕ) → Prepared at c → Legal at block len → startOf block + len ≤ length (at .flash)

@@ -16,18 +16,21 @@ use Rattle.session.specs.Session.{appEnd, phaseOf, noDownload, upOf, flashStrea
 use Rattle.session.specs.Rules.{inApplication}
 use Rattle.session.specs.declared.Session.{Session}
 use Rattle.session.proofs.Tests.{left-of, right-of, unless}
-use Rattle.request.specs.Request.{wordAt, wLength, requestOf, allowedOf}
+use Rattle.numbers.specs.Numbers.{wordAt, longAt}
+use Rattle.request.specs.Request.{wLength, requestOf, allowedOf}
 use Rattle.request.specs.declared.Request.{Request}
+use Rattle.request.specs.Commands.{prog, read, check, erase, info, bin, reset}
 use Rattle.moves.specs.Answers.{Leaves, Done, done, leaves}
 use Rattle.moves.specs.Moves.{movedTo, toIdle, toSync, takenOf, stallOf, unfitOf, faultOf, resetOf}
 use Rattle.command.specs.Ready.{Ready}
-use Rattle.command.specs.Download.{longAt, prog, read, check, erase, info, bin, reset, allErased, wroteOf, progOf, readOf, checkOf}
+use Rattle.command.specs.Download.{allErased, progOf, readOf, checkOf}
 use Rattle.command.specs.Download.{eraseOf, infoOf, binOf, wellFormed, carriedOut, commandOf, closedOf, pieceOf, dnloadOf}
 use Rattle.loader.specs.Reply.{getstatusOf, getstateOf, queryOf}
 use Rattle.loader.specs.Upload.{uploadOf}
-use Rattle.loader.specs.Step.{ready, withReply, withFlash, served, stepOf}
+use Rattle.loader.specs.Step.{ready, withReply, served, stepOf}
 use Rattle.loader.proofs.Laws.{ready-fit, allowed-loading}
 use Rattle.demands.specs.One.{FaultStatus, not-erased, out-of-range, bytes-missing, bad-command}
+use Rattle.demands.proofs.Left.{wroteOf, withFlash}
 
 -- what holds of both values of a test's pick holds of the pick
 pub pick : {A : Type 0} (P : A → Type 0) (t : Bool) (x y : A) → (t ≡ true → P x) → (t ≡ false → P y) → P (cond t x y)

@@ -6,7 +6,7 @@ use mathlib.Core.Path.{_≡_}
 use lib.ListN.{length, getD}
 use Rattle.flash.specs.Flash.{startOf}
 use Rattle.session.specs.Fit.{Fit}
-use Rattle.request.specs.Request.{wordAt}
+use Rattle.numbers.specs.Numbers.{wordAt}
 use Rattle.request.specs.declared.Request.{Request}
 use Rattle.demands.specs.Calls.{Call, Site}
 

@@ -3,8 +3,7 @@
 use Prim.Native.Nat.{ℕ}
 use mathlib.Core.List.{List, [], _∷_}
 use Rattle.session.specs.declared.Session.{Session}
-use Rattle.moves.specs.declared.Outcome.{Outcome}
-use Rattle.moves.specs.Answers.{answerNumber, Leaves}
+use Rattle.moves.specs.Answers.{Leaves, Told}
 
 -- session, flash, setup, data and reply buffer to all that a call leaves
 abbrev pub Step : Type 0
@@ -12,22 +11,11 @@ Step = Session → List ℕ → List ℕ → List ℕ → List ℕ → Leaves
 
 -- flash, A, B and the part numbers to what a start leaves; it changes no flash
 abbrev pub Start : Type 0
-Start = List ℕ → ℕ → ℕ → ℕ → ℕ → Outcome
+Start = List ℕ → ℕ → ℕ → ℕ → ℕ → Told
 
 -- the number that the host hears: 0 taken, 1 stalled, 2 unfit, 3 faulted, 4 reset asked
 abbrev pub heard : Leaves → ℕ
-heard l = answerNumber (l .outcome .answer)
-
--- the count of reply bytes, and the session handed back
-abbrev pub countOf : Leaves → ℕ
-countOf l = l .outcome .count
-
-abbrev pub sessionOf : Leaves → Session
-sessionOf l = l .outcome .session
-
--- the number that a start answers
-abbrev pub told : Outcome → ℕ
-told o = answerNumber (o .answer)
+heard l = l .answer
 
 -- what a call is handed besides the session and the flash: setup bytes, data, and the reply buffer as it was lent
 pub record Call : Type 0 where
@@ -50,7 +38,7 @@ called step at c = step (at .session) (at .flash) (c .setup) (c .bytes) (c .repl
 
 -- the site after a call, and after a list of them
 unfoldable pub next : Step → Site → Call → Site
-next step at c = record { session = sessionOf (called step at c); flash = called step at c .flash }
+next step at c = record { session = called step at c .session; flash = called step at c .flash }
 
 unfoldable pub after : Step → Site → List Call → Site
 after step at [] = at

@@ -9,8 +9,8 @@ use Rattle.flash.specs.Flash.{startOf, nextStart, range, spliced, erased}
 use Rattle.session.specs.Codes.{idle, downloadIdle}
 use Rattle.session.specs.Session.{downOf}
 use Rattle.session.specs.Fit.{Fit}
-use Rattle.stream.specs.Stream.{bytes2, bytes4}
-use Rattle.command.specs.Download.{prog, read, erase}
+use Rattle.numbers.specs.Numbers.{bytes2, bytes4}
+use Rattle.request.specs.Commands.{prog, read, erase}
 use Rattle.moves.specs.Answers.{Leaves}
 use Rattle.demands.specs.Calls.{Step, heard, countOf, Call, Site, called, next}
 use Rattle.demands.specs.TwoCommands.{Legal}

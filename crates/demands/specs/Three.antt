@@ -12,10 +12,10 @@ use Rattle.session.specs.Session.{boardOf, appEnd}
 use Rattle.session.specs.Fit.{Fit}
 use Rattle.session.specs.declared.Board.{Board}
 use Rattle.session.specs.declared.Session.{Session}
-use Rattle.request.specs.Request.{wordAt, requestOf}
+use Rattle.numbers.specs.Numbers.{wordAt, longAt}
+use Rattle.request.specs.Request.{requestOf}
 use Rattle.request.specs.declared.Request.{Request}
 use Rattle.moves.specs.Answers.{Leaves}
-use Rattle.command.specs.Download.{longAt}
 use Rattle.demands.specs.Calls.{Start, Step, heard, Call, Site, begun, called, next, after}
 use Rattle.demands.specs.One.{Untouched, AllowedStart}
 

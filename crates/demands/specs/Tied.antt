@@ -9,7 +9,7 @@ use Rattle.flash.specs.Flash.{startOf, spliced, erased}
 use Rattle.sums.specs.declared.Sums.{Sums}
 use Rattle.session.specs.Session.{withSums}
 use Rattle.session.specs.declared.Session.{Session}
-use Rattle.request.specs.Request.{wordAt}
+use Rattle.numbers.specs.Numbers.{wordAt}
 use Rattle.stream.specs.Stream.{Sent}
 use Rattle.moves.specs.declared.Answer.{Answer}
 use Rattle.moves.specs.Answers.{answerNumber, Leaves, outcome, leaves}

@@ -6,9 +6,8 @@ use mathlib.Core.Path.{_≡_}
 use lib.ListN.{length, getD, drop}
 use Rattle.flash.specs.Flash.{startOf}
 use Rattle.session.specs.Session.{appEnd, downOf, upOf}
-use Rattle.request.specs.Request.{wordAt}
+use Rattle.numbers.specs.Numbers.{wordAt, longAt}
 use Rattle.request.specs.declared.Request.{Request}
-use Rattle.command.specs.Download.{longAt}
 use Rattle.demands.specs.Calls.{Step, Call, Site, called}
 use Rattle.demands.specs.Asked.{stateOf, Prepared, Allowed, Asks, NoRequest}
 use Rattle.demands.specs.Two.{handed, Answers, Enters, Moves}
