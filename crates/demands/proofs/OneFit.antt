@@ -38,7 +38,7 @@ use Rattle.loader.specs.Reply.{entered, polled, getstatusOf, getstateOf, queryO
 use Rattle.loader.specs.Upload.{placeOf, answerOf, uploadEnds, uploadingAt, uploadedOf, uploadOf}
 use Rattle.loader.specs.Step.{startable, freshStart, startOutcome, stepOf}
 use Rattle.loader.proofs.Laws.{place-in-stream, start-split, start-sized}
-use Rattle.demands.specs.Calls.{sessionOf, heard, Call, Site, called, next}
+use Rattle.demands.specs.Calls.{heard, Call, Site, called, next}
 use Rattle.demands.specs.One.{StaysFit, AllowedStart, StartsFit, RefusedStart, FaultStatus}
 use Rattle.demands.specs.One.{not-erased, out-of-range, bytes-missing, bad-command}
 use Rattle.demands.proofs.Ways.{pick, every-way}
@@ -280,7 +280,7 @@ tests-stay at c e =
     let f = at .flash in
     let d = c .bytes in
     let k = fit-kept s e in
-    every-way s f (c .setup) d (c .reply) (λ (l : Leaves). fitOf (sessionOf l) ≡ true)
+    every-way s f (c .setup) d (c .reply) (λ (l : Leaves). fitOf (l .session) ≡ true)
     (record {
       unfits = λ _. e;
       stalls = λ _ _. stall-fit s e;

@@ -18,7 +18,7 @@ use Rattle.command.specs.Download.{dnloadOf}
 use Rattle.loader.specs.Reply.{getstatusOf}
 use Rattle.loader.specs.Upload.{uploadOf}
 use Rattle.loader.specs.Step.{ready, served, stepOf, withReply}
-use Rattle.demands.specs.Calls.{sessionOf, Call, Site, called, next}
+use Rattle.demands.specs.Calls.{Call, Site, called, next}
 use Rattle.demands.proofs.Asked.{prepared-from, prepared-ready}
 use Rattle.demands.specs.ReadBack.{Host, asks, replied, wasTaken, ranAfter, run}
 use Rattle.demands.specs.ReadBack.{setupFor, dnload, upload, poll, abort}
@@ -35,7 +35,7 @@ pub on-taken :
     → run stepOf at (asks c go) ≡ run stepOf (siteOf s f) (go (take n reply))
 unfolding run next replied wasTaken ranAfter
 on-taken {A} at c go n s f reply e =
-    ap (λ (l : Leaves). ranAfter (wasTaken l) (run stepOf (siteOf (sessionOf l) (l .flash)) (go (replied l)))) e
+    ap (λ (l : Leaves). ranAfter (wasTaken l) (run stepOf (siteOf (l .session) (l .flash)) (go (replied l)))) e
 
 -- the setup of a DNLOAD of so many bytes
 module _ (n : ℕ) (few : n ≤ 1024) where

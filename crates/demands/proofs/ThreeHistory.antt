@@ -29,7 +29,7 @@ use Rattle.command.proofs.Laws.{ready-split, ready-within, ready-place, ready-r
 use Rattle.loader.specs.Reply.{polled, getstatusOf, getstateOf, queryOf, answered}
 use Rattle.loader.specs.Upload.{uploadEnds, uploadingAt, uploadedOf, uploadOf}
 use Rattle.loader.specs.Step.{freshStart, startOutcome, stepOf}
-use Rattle.demands.specs.Calls.{sessionOf, begun, Call, Site, called, next, after}
+use Rattle.demands.specs.Calls.{begun, Call, Site, called, next, after}
 use Rattle.demands.specs.One.{Untouched, AllowedStart}
 use Rattle.demands.specs.Three.{Held, History}
 use Rattle.demands.proofs.Ways.{pick, every-way}
@@ -86,7 +86,7 @@ unfolding next called wroteOf infoOf binOf movedTo stallOf unfitOf faultOf reset
     answered uploadOf uploadedOf uploadingAt
 board-stays at c =
     let s = at .session in
-    every-way s (at .flash) (c .setup) (c .bytes) (c .reply) (λ (l : Leaves). sessionOf l .board ≡ s .board)
+    every-way s (at .flash) (c .setup) (c .bytes) (c .reply) (λ (l : Leaves). l .session .board ≡ s .board)
     (record {
       unfits = λ _. refl;
       stalls = λ _ _. pick (λ (t : Session). t .board ≡ s .board) (eqb (s .phase .state .0) 10) _ _ (λ _. refl) (λ _. refl);
@@ -119,7 +119,7 @@ sums-stay at c right =
     let d = c .bytes in
     let kept : Session → Type 0 = λ t. Right (t .sums) f (s .board .a .0) (appEnd (s .board)) in
     every-way s f (c .setup) d (c .reply)
-    (λ (l : Leaves). Right (sessionOf l .sums) (l .flash) (s .board .a .0) (appEnd (s .board)))
+    (λ (l : Leaves). Right (l .session .sums) (l .flash) (s .board .a .0) (appEnd (s .board)))
     (record {
       unfits = λ _. right;
       stalls = λ _ _. pick kept (eqb (s .phase .state .0) 10) _ _ (λ _. right) (λ _. right);

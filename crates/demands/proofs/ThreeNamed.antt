@@ -29,7 +29,7 @@ use Rattle.command.proofs.Laws.{ready-within, ready-range}
 use Rattle.loader.specs.Reply.{entered, polled, getstatusOf, getstateOf, queryOf, answered}
 use Rattle.loader.specs.Upload.{uploadEnds, uploadingAt, uploadedOf, uploadOf}
 use Rattle.loader.specs.Step.{freshStart, startOutcome, stepOf}
-use Rattle.demands.specs.Calls.{sessionOf, begun, heard, Call, Site, called, next, after}
+use Rattle.demands.specs.Calls.{begun, heard, Call, Site, called, next, after}
 use Rattle.demands.specs.One.{AllowedStart}
 use Rattle.demands.specs.Three.{NamedRange, none, NotNamed, progNames, eraseNames, commandNames, isDnload, tookDnload}
 use Rattle.demands.specs.Three.{ChangesNamed, mayChange, noteOf, notedAfter, OnlyNamed}
@@ -205,7 +205,7 @@ covers-next noted at c covers =
     let same : (l : Leaves) → tookDnload 2 s c l ≡ false → Covers (noteOf noted s c l) s =
     λ l e. covers-as _ _ _ (notes-same noted s c l e) covers
     in
-    every-way s f (c .setup) d (c .reply) (λ (l : Leaves). Covers (noteOf noted s c l) (sessionOf l))
+    every-way s f (c .setup) d (c .reply) (λ (l : Leaves). Covers (noteOf noted s c l) (l .session))
     (record {
       unfits = λ _. same _ (untaken noted s c _ (λ (h : _≡_ {A = ℕ} 2 0). omega arith));
       stalls = λ _ _. stopped _ _ (stall-stops s);

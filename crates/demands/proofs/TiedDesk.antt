@@ -23,7 +23,7 @@ use Rattle.command.specs.Download.{allErased, progOf, eraseOf, wellFormed}
 use Rattle.command.specs.Download.{carriedOut, commandOf, closedOf, pieceOf, dnloadOf}
 use Rattle.loader.specs.Reply.{answered, entered, polled, pollTime, getstatusOf, getstateOf, queryOf}
 use Rattle.loader.specs.Step.{startable, freshStart, startOutcome, served, stepOf}
-use Rattle.demands.specs.Calls.{heard, countOf, sessionOf, Call, Site, begun, called, next, after}
+use Rattle.demands.specs.Calls.{heard, Call, Site, begun, called, next, after}
 use Rattle.demands.specs.Asked.{Prepared}
 use Rattle.demands.proofs.Asked.{prepared-from}
 use Rattle.demands.specs.Tied.{Case, Meets, Expected, All, none, _and_, Desk, freshSite, getStatus}
@@ -201,8 +201,8 @@ module _ (p q : ℕ) (f buffer : List ℕ) (sized : length f ≡ startOf 64) (ro
   -- what an example expects, one by one
   example :
       (n : ℕ) (at : Site) (left : Leaves) → after stepOf (nth n .at) (nth n .before) ≡ at → called stepOf at (nth n .call) ≡ left
-      → heard left ≡ nth n .answer → countOf left ≡ length (nth n .reply)
-      → sessionOf left .phase .state .0 ≡ nth n .state → sessionOf left .phase .status .0 ≡ nth n .status
+      → heard left ≡ nth n .answer → left .count ≡ length (nth n .reply)
+      → left .session .phase .state .0 ≡ nth n .state → left .session .phase .status .0 ≡ nth n .status
       → left .reply ≡ nth n .reply ++ drop (length (nth n .reply)) (nth n .call .reply) → left .flash ≡ nth n .flash
       → Expected stepOf (nth n)
   example n at left e h answer count state status reply flash =

@@ -23,7 +23,7 @@ use Rattle.request.specs.Request.{setupOf, dataAsked}
 use Rattle.request.specs.declared.Request.{Request}
 use Rattle.moves.specs.Moves.{stallOf}
 use Rattle.loader.specs.Step.{startOutcome, stepOf}
-use Rattle.demands.specs.Calls.{Step, sessionOf, Call, Site, begun, called, next, after}
+use Rattle.demands.specs.Calls.{Step, Call, Site, begun, called, next, after}
 use Rattle.demands.specs.One.{AllowedStart}
 use Rattle.demands.specs.Asked.{stateOf, Asks, Form}
 use Rattle.demands.specs.Asked.Form.{dnload, upload, getstate, query}
@@ -215,7 +215,7 @@ programs-not h = stores (doesNothingAt 1) h refl
 closes-not : (held : List ℕ) → Led ProgramAt (allAtClose held) → ⊥
 unfolding called begun allAtClose
 closes-not held h =
-    let leads : sessionOf (called stepOf erased-site prog-call) .phase .after .0 ≡ 5 = programs (allAtClose held) h .enters .leads in
+    let leads : called stepOf erased-site prog-call .session .phase .after .0 ≡ 5 = programs (allAtClose held) h .enters .leads in
     stores (allAtClose held) h (rw leads)
 
 -- a splice is there up to its end, also where it doesn't fit
@@ -239,7 +239,7 @@ module _
   stored : called (allAtFirst image) erased-site prog-call .flash ≡ spliced ours 1024 image
   unfolding called allAtFirst
   stored =
-      let leads : sessionOf (called stepOf erased-site prog-call) .phase .after .0 ≡ 5 = programs (allAtFirst image) h .enters .leads in
+      let leads : called stepOf erased-site prog-call .session .phase .after .0 ≡ 5 = programs (allAtFirst image) h .enters .leads in
       rw (idle smallFlash small-long, leads)
 
   first-not : ⊥

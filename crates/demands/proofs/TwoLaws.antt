@@ -5,7 +5,7 @@ use Rattle.moves.specs.Answers.{Leaves, leaves}
 use Rattle.moves.specs.Moves.{stallOf}
 use Rattle.request.specs.Request.{requestOf, wLength, allowedOf}
 use Rattle.loader.specs.Step.{served, stepOf}
-use Rattle.demands.specs.Calls.{sessionOf, Call, Site, called, next}
+use Rattle.demands.specs.Calls.{Call, Site, called, next}
 use Rattle.demands.specs.Asked.{Prepared}
 use Rattle.demands.proofs.Asked.{prepared-ready}
 
@@ -27,6 +27,6 @@ module _ (at : Site) (c : Call) (k : Prepared at c) where
 -- the site after a call, from what the call leaves
 pub next-from :
     (at : Site) (c : Call) (left : Leaves) → called stepOf at c ≡ left → next stepOf at c
-    ≡ record { session = sessionOf left; flash = left .flash }
+    ≡ record { session = left .session; flash = left .flash }
 unfolding next
 next-from at c left e = rw e

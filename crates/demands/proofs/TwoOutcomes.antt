@@ -10,7 +10,7 @@ use Rattle.moves.specs.declared.Answer.{Answer}
 use Rattle.moves.specs.Answers.{Leaves, answerNumber, outcome, leaves}
 use Rattle.moves.specs.Moves.{movedTo, rewound}
 use Rattle.loader.specs.Step.{stepOf}
-use Rattle.demands.specs.Calls.{heard, countOf, sessionOf, Call, Site, called}
+use Rattle.demands.specs.Calls.{heard, Call, Site, called}
 use Rattle.demands.specs.Asked.{Prepared}
 use Rattle.demands.specs.Two.{Answers, Enters, Unchanged, Moves}
 use Rattle.demands.specs.TwoCommands.{Chooses}
@@ -22,12 +22,12 @@ module _
   so-answers =
       record {
         answer = ap (λ (l : Leaves). heard l) e;
-        count = ap (λ (l : Leaves). countOf l) e;
+        count = ap (λ (l : Leaves). l .count) e;
         reply = ap (λ (l : Leaves). l .reply) e;
       }
 
-  pub so-session : sessionOf (called stepOf at c) ≡ t
-  so-session = ap (λ (l : Leaves). sessionOf l) e
+  pub so-session : called stepOf at c .session ≡ t
+  so-session = ap (λ (l : Leaves). l .session) e
 
   pub so-flash : called stepOf at c .flash ≡ g
   so-flash = ap (λ (l : Leaves). l .flash) e

@@ -19,7 +19,7 @@ use Rattle.command.specs.Download.{pieceOf, closedOf}
 use Rattle.loader.specs.Reply.{answered, entered, polled, pollTime, getstatusOf, getstateOf, queryOf}
 use Rattle.loader.specs.Upload.{placeOf, answerOf, uploadEnds, uploadingAt, uploadedOf, uploadOf}
 use Rattle.loader.specs.Step.{served, stepOf}
-use Rattle.demands.specs.Calls.{countOf, Call, Site, called}
+use Rattle.demands.specs.Calls.{Call, Site, called}
 use Rattle.demands.specs.Asked.{stateOf, Prepared, Asks, NoRequest}
 use Rattle.demands.specs.Two.{Unchanged, Moves, Reports, StartsAt, nextBytes, Uploads, Rows}
 use Rattle.demands.proofs.TwoForms.{asks-served, asks-stalled, asks-brings}
@@ -69,9 +69,9 @@ module _ (at : Site) (c : Call) (n place : ℕ) (k : Asks at c Request.Upload n)
       allowed (inl e) = inl (e .0)
       allowed (inr e) = inr (e .0)
 
-  upload-count : StartsAt at place → countOf (called stepOf at c) ≡ min n (streamLength (at .session .up) - place)
+  upload-count : StartsAt at place → called stepOf at c .count ≡ min n (streamLength (at .session .up) - place)
   unfolding answered
-  upload-count e = ap (λ (l : Leaves). countOf l) (uploads e) ∙ count-is
+  upload-count e = ap (λ (l : Leaves). l .count) (uploads e) ∙ count-is
 
   upload-ends : StartsAt at place → n < 1024 → Moves stepOf at c 0 (nextBytes at place n) 2 0
   unfolding uploadedOf uploadEnds answered

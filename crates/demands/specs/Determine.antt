@@ -2,23 +2,22 @@
 use Prim.Native.Nat.{ℕ}
 use mathlib.Core.List.{List}
 use mathlib.Core.Path.{_≡_}
-use Rattle.moves.specs.declared.Outcome.{Outcome}
-use Rattle.moves.specs.Answers.{Leaves}
+use Rattle.moves.specs.Answers.{Leaves, Told}
 use Rattle.loader.specs.Step.{startOutcome, stepOf}
-use Rattle.demands.specs.Calls.{Start, Step, heard, countOf, sessionOf, told, Call, begun, called, after}
+use Rattle.demands.specs.Calls.{Start, Step, heard, Call, begun, called, after}
 use Rattle.demands.specs.Demands.{MeetsDemands}
 
 -- two starts leave the same, field by field
-pub record SameStart (o p : Outcome) : Type 0 where
-  pub answer : told o ≡ told p
+pub record SameStart (o p : Told) : Type 0 where
+  pub answer : o .answer ≡ p .answer
   pub count : o .count ≡ p .count
   pub session : o .session ≡ p .session
 
 -- so do two calls
 pub record SameLeft (l m : Leaves) : Type 0 where
   pub answer : heard l ≡ heard m
-  pub count : countOf l ≡ countOf m
-  pub session : sessionOf l ≡ sessionOf m
+  pub count : l .count ≡ m .count
+  pub session : l .session ≡ m .session
   pub flash : l .flash ≡ m .flash
   pub reply : l .reply ≡ m .reply
 

@@ -11,9 +11,8 @@ use Rattle.session.specs.Fit.{Fit}
 use Rattle.session.specs.declared.Board.{Board}
 use Rattle.session.specs.declared.Session.{Session}
 use Rattle.request.specs.declared.Request.{Request}
-use Rattle.moves.specs.declared.Outcome.{Outcome}
-use Rattle.moves.specs.Answers.{Leaves}
-use Rattle.demands.specs.Calls.{Start, Step, heard, countOf, sessionOf, told, Call, Site, called, next}
+use Rattle.moves.specs.Answers.{Leaves, Told}
+use Rattle.demands.specs.Calls.{Start, Step, heard, Call, Site, called, next}
 use Rattle.demands.specs.Asked.{stateOf, Prepared, Form, Allowed, NoRequest}
 
 -- an address in no application block: below block A's first byte, or from the application's end on
@@ -32,7 +31,7 @@ Outside step = (at : Site) (c : Call) → Untouched (at .session .board) (at .fl
 
 -- what every refused call leaves: a count of 0, flash and reply untouched
 pub record Quiet (at : Site) (c : Call) (l : Leaves) : Type 0 where
-  pub count : countOf l ≡ 0
+  pub count : l .count ≡ 0
   pub flash : l .flash ≡ at .flash
   pub reply : l .reply ≡ c .reply
 
@@ -64,13 +63,13 @@ AsFresh s t = Settled s t 2 0 0 1 (s .board .a .0) (startOf (appEnd (s .board) -
 pub record Stalled (at : Site) (c : Call) (l : Leaves) : Type 0 where
   pub when : NoRequest at c
   pub quiet : Quiet at c l
-  pub in-ten : at .session .phase .state .0 ≡ 10 → sessionOf l ≡ at .session
-  pub elsewhere : (at .session .phase .state .0 ≡ 10 → ⊥) → InError (at .session) (sessionOf l) 0x0F
+  pub in-ten : at .session .phase .state .0 ≡ 10 → l .session ≡ at .session
+  pub elsewhere : (at .session .phase .state .0 ≡ 10 → ⊥) → InError (at .session) (l .session) 0x0F
 
 -- row 2, unfit: nothing changes
 pub record Unfit (at : Site) (c : Call) (l : Leaves) : Type 0 where
   pub quiet : Quiet at c l
-  pub session : sessionOf l ≡ at .session
+  pub session : l .session ≡ at .session
 
 -- a status that a fault can set: 05, 08, 09 or 0B
 pub data FaultStatus (n : ℕ) : Type 0 where
@@ -83,8 +82,8 @@ pub data FaultStatus (n : ℕ) : Type 0 where
 pub record Faulted (at : Site) (c : Call) (l : Leaves) : Type 0 where
   pub when : (n : ℕ) × Form (c .setup) n Request.Dnload
   pub quiet : Quiet at c l
-  pub status : FaultStatus (sessionOf l .phase .status .0)
-  pub in-error : InError (at .session) (sessionOf l) (sessionOf l .phase .status .0)
+  pub status : FaultStatus (l .session .phase .status .0)
+  pub in-error : InError (at .session) (l .session) (l .session .phase .status .0)
 
 -- a DNLOAD in state 2 of the eight bytes of RESET, number 7
 pub record ResetCommand (at : Site) (c : Call) : Type 0 where
@@ -97,7 +96,7 @@ pub record ResetCommand (at : Site) (c : Call) : Type 0 where
 pub record ResetAsked (at : Site) (c : Call) (l : Leaves) : Type 0 where
   pub when : ResetCommand at c
   pub quiet : Quiet at c l
-  pub as-fresh : AsFresh (at .session) (sessionOf l)
+  pub as-fresh : AsFresh (at .session) (l .session)
 
 -- rows 1 to 4 of the answer table
 pub record AnswerRows (at : Site) (c : Call) (l : Leaves) : Type 0 where
@@ -134,8 +133,8 @@ pub record AllowedStart (f : List ℕ) (a b : ℕ) : Type 0 where
   pub sized : length f ≡ startOf b
 
 -- a start that is taken, with a fit session
-pub record GoodStart (o : Outcome) : Type 0 where
-  pub answer : told o ≡ 0
+pub record GoodStart (o : Told) : Type 0 where
+  pub answer : o .answer ≡ 0
   pub count : o .count ≡ 0
   pub fit : Fit (o .session)
 
@@ -144,8 +143,8 @@ abbrev pub StartsFit : Start → Type 0
 StartsFit start = (f : List ℕ) (a b part0 part1 : ℕ) → AllowedStart f a b → GoodStart (start f a b part0 part1)
 
 -- a start that is answered unfit, with the session of zeros, which every later call finds unfit, whatever flash it is lent
-pub record BadStart (step : Step) (o : Outcome) : Type 0 where
-  pub answer : told o ≡ 2
+pub record BadStart (step : Step) (o : Told) : Type 0 where
+  pub answer : o .answer ≡ 2
   pub count : o .count ≡ 0
   pub session : o .session ≡ zerosOf
   pub later-answer : (g : List ℕ) (c : Call) → heard (called step (record { session = o .session; flash = g }) c) ≡ 2

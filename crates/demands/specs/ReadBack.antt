@@ -12,7 +12,7 @@ use Rattle.session.specs.Fit.{Fit}
 use Rattle.numbers.specs.Numbers.{bytes2, bytes4}
 use Rattle.request.specs.Commands.{prog, read, erase}
 use Rattle.moves.specs.Answers.{Leaves}
-use Rattle.demands.specs.Calls.{Step, heard, countOf, Call, Site, called, next}
+use Rattle.demands.specs.Calls.{Step, heard, Call, Site, called, next}
 use Rattle.demands.specs.TwoCommands.{Legal}
 
 -- A host ends with something, or makes a call and goes on by the reply bytes that it hears. It is handed no session and no flash, so
@@ -23,7 +23,7 @@ pub data Host (A : Type 0) : Type 0 where
 
 -- the reply bytes of a call: as many as its count says
 unfoldable pub replied : Leaves → List ℕ
-replied l = take (countOf l) (l .reply)
+replied l = take (l .count) (l .reply)
 
 -- whether the answer was 0, taken
 unfoldable pub wasTaken : Leaves → Bool

@@ -12,10 +12,10 @@ use Rattle.session.specs.declared.Session.{Session}
 use Rattle.numbers.specs.Numbers.{wordAt}
 use Rattle.stream.specs.Stream.{Sent}
 use Rattle.moves.specs.declared.Answer.{Answer}
-use Rattle.moves.specs.Answers.{answerNumber, Leaves, outcome, leaves}
+use Rattle.moves.specs.Answers.{answerNumber, Leaves, leaves}
 use Rattle.moves.specs.Moves.{takenOf, stallOf}
 use Rattle.loader.specs.Step.{startOutcome, stepOf}
-use Rattle.demands.specs.Calls.{Start, Step, heard, countOf, sessionOf, Call, Site, begun, called, after}
+use Rattle.demands.specs.Calls.{Start, Step, heard, Call, Site, begun, called, after}
 use Rattle.demands.specs.Two.{RowsAt}
 use Rattle.demands.specs.TwoCommands.{EraseAt, ProgramAt}
 use Rattle.demands.specs.Three.{History}
@@ -35,9 +35,9 @@ pub record Case : Type 0 where
 -- what a call leaves is what an example expects: the count is that of the reply's bytes, and the rest of the reply is untouched
 pub record Meets (left : Leaves) (c : Case) : Type 0 where
   pub answer : heard left ≡ c .answer
-  pub count : countOf left ≡ length (c .reply)
-  pub state : sessionOf left .phase .state .0 ≡ c .state
-  pub status : sessionOf left .phase .status .0 ≡ c .status
+  pub count : left .count ≡ length (c .reply)
+  pub state : left .session .phase .state .0 ≡ c .state
+  pub status : left .session .phase .status .0 ≡ c .status
   pub reply : left .reply ≡ c .reply ++ drop (length (c .reply)) (c .call .reply)
   pub flash : left .flash ≡ c .flash
 
@@ -166,7 +166,7 @@ pub record OneOutcome : Type 1 where
   pub sent :
       (n m : ℕ) (before after other bytes : List ℕ) → Sent n before after bytes → Sent m before other bytes
       → (n ≡ m) × (after ≡ other)
-  -- request::word promises a bound beside its equation
+  -- numbers::word promises a bound beside its equation
   pub word :
       (bytes : List ℕ) (at r q : ℕ) → (r ≡ wordAt bytes at) × (r < 65536) → (q ≡ wordAt bytes at) × (q < 65536) → r ≡ q
   -- and an answer is told by its number
@@ -174,13 +174,13 @@ pub record OneOutcome : Type 1 where
 
 -- what a call leaves, with another flash, another count and reply, or another session in the place of its own
 abbrev pub butFlash : Leaves → List ℕ → Leaves
-butFlash l flash = leaves (l .outcome) flash (l .reply)
+butFlash l flash = record { answer = l .answer; count = l .count; session = l .session; flash = flash; reply = l .reply }
 
 abbrev pub butReply : Leaves → ℕ → List ℕ → Leaves
-butReply l count reply = leaves (outcome (l .outcome .answer) count (sessionOf l)) (l .flash) reply
+butReply l count reply = record { answer = l .answer; count = count; session = l .session; flash = l .flash; reply = reply }
 
 abbrev pub butSession : Leaves → Session → Leaves
-butSession l s = leaves (outcome (l .outcome .answer) (countOf l) s) (l .flash) (l .reply)
+butSession l s = record { answer = l .answer; count = l .count; session = s; flash = l .flash; reply = l .reply }
 
 -- one that stalls everything
 abbrev pub stallsAll : Step
@@ -210,7 +210,7 @@ unfoldable pub allAtFirst : List ℕ → Step
 allAtFirst image s flash setup d reply =
     let l = stepOf s flash setup d reply in
     butFlash l
-    (cond (eqb (s .phase .state .0) 2 && eqb (sessionOf l .phase .after .0) 5)
+    (cond (eqb (s .phase .state .0) 2 && eqb (l .session .phase .after .0) 5)
     (spliced (l .flash) (startOf (wordAt d 2)) image)
     (l .flash))
 
@@ -219,8 +219,8 @@ unfoldable pub allAtClose : List ℕ → Step
 allAtClose held s flash setup d reply =
     let l = stepOf s flash setup d reply in
     butFlash l
-    (cond (eqb (sessionOf l .phase .after .0) 5) flash
-    (cond (eqb (sessionOf l .phase .state .0) 6) (spliced (l .flash) (s .down .place .0 - length held) held) (l .flash)))
+    (cond (eqb (l .session .phase .after .0) 5) flash
+    (cond (eqb (l .session .phase .state .0) 6) (spliced (l .flash) (s .down .place .0 - length held) held) (l .flash)))
 
 -- one that invents the byte count, by what was asked for alone; right in all else
 unfoldable pub inventsCount : (ℕ → ℕ) → Step
@@ -232,13 +232,13 @@ inventsCount invented s flash setup d reply =
 unfoldable pub constantSums : Sums → Step
 constantSums sums s flash setup d reply =
     let l = stepOf s flash setup d reply in
-    butSession l (withSums (sessionOf l) sums)
+    butSession l (withSums (l .session) sums)
 
 -- and such a start
 unfoldable pub constantStart : Sums → Start
 constantStart sums flash a b part0 part1 =
     let o = startOutcome flash a b part0 part1 in
-    outcome (o .answer) (o .count) (withSums (o .session) sums)
+    record { answer = o .answer; count = o .count; session = withSums (o .session) sums }
 
 -- a demand of any site and call, asked of a loader where our start and the loader's own calls lead to on a board with A = 1 and B = 3
 abbrev pub Led : (Step → Site → Call → Type 0) → Step → Type 0

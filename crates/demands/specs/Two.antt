@@ -9,8 +9,8 @@ use Rattle.session.specs.Session.{boardOf, appEnd, phaseOf, downOf, upOf, strea
 use Rattle.session.specs.declared.Session.{Session}
 use Rattle.request.specs.declared.Request.{Request}
 use Rattle.stream.specs.Stream.{streamOf}
-use Rattle.moves.specs.declared.Outcome.{Outcome}
-use Rattle.demands.specs.Calls.{Start, Step, heard, countOf, sessionOf, told, Call, Site, called}
+use Rattle.moves.specs.Answers.{Told}
+use Rattle.demands.specs.Calls.{Start, Step, heard, Call, Site, called}
 use Rattle.demands.specs.Asked.{stateOf, Prepared, Asks, NoRequest}
 use Rattle.demands.specs.One.{AllowedStart}
 
@@ -27,12 +27,12 @@ nextBytes at place n = take n (drop place (streamOf (at .session .board) (at .se
 module _ (step : Step) where
   -- the session that a call hands back
   abbrev pub handed : Site → Call → Session
-  handed at c = sessionOf (called step at c)
+  handed at c = called step at c .session
 
   -- what the host hears: the answer's number, and so many bytes at the front of the reply, the rest of it untouched
   pub record Answers (at : Site) (c : Call) (number : ℕ) (bytes : List ℕ) : Type 0 where
     pub answer : heard (called step at c) ≡ number
-    pub count : countOf (called step at c) ≡ length bytes
+    pub count : called step at c .count ≡ length bytes
     pub reply : called step at c .reply ≡ bytes ++ drop (length bytes) (c .reply)
 
   -- the session handed back: its state, its status and its state after sync; A, B and the part numbers are kept
@@ -89,7 +89,7 @@ module _ (step : Step) where
     -- UPLOAD: the next bytes, as many as the smaller of wLength and those left; fewer than 1,024 asked for end it
     pub upload-count :
         (n place : ℕ) → Asks at c Request.Upload n → StartsAt at place
-        → countOf (called step at c) ≡ min n (streamLength (at .session .up) - place)
+        → called step at c .count ≡ min n (streamLength (at .session .up) - place)
     pub upload-ends :
         (n place : ℕ) → Asks at c Request.Upload n → StartsAt at place → n < 1024 → Moves at c 0 (nextBytes at place n) 2 0
     pub upload-goes-on : (n place : ℕ) → Asks at c Request.Upload n → StartsAt at place → 1024 ≤ n → Uploads at c place n
@@ -114,8 +114,8 @@ module _ (step : Step) where
   Rows = (at : Site) (c : Call) → RowsAt at c
 
 -- a fresh start: answer 0, state 2, prefix on, read range all of the application, sums those of the flash
-pub record Fresh (flash : List ℕ) (a b part0 part1 : ℕ) (o : Outcome) : Type 0 where
-  pub answer : told o ≡ 0
+pub record Fresh (flash : List ℕ) (a b part0 part1 : ℕ) (o : Told) : Type 0 where
+  pub answer : o .answer ≡ 0
   pub count : o .count ≡ 0
   pub board : o .session .board ≡ boardOf a b part0 part1
   pub phase : o .session .phase ≡ phaseOf 2 0 2
@@ -124,8 +124,8 @@ pub record Fresh (flash : List ℕ) (a b part0 part1 : ℕ) (o : Outcome) : Type
   pub sums : Right (o .session .sums) flash a (appEnd (boardOf a b part0 part1))
 
 -- a refused start: answer 2 and a session of zeros
-pub record Zeros (o : Outcome) : Type 0 where
-  pub answer : told o ≡ 2
+pub record Zeros (o : Told) : Type 0 where
+  pub answer : o .answer ≡ 2
   pub count : o .count ≡ 0
   pub board : o .session .board ≡ boardOf 0 0 0 0
   pub phase : o .session .phase ≡ phaseOf 0 0 0
