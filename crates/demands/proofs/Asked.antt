@@ -14,10 +14,10 @@ use Rattle.session.proofs.Laws.{fit-facts, facts-fit}
 use Rattle.session.proofs.Tests.{left-of, right-of}
 use Rattle.numbers.specs.Numbers.{wordAt}
 use Rattle.request.specs.Request.{setupOf, dataAsked}
+use Rattle.command.proofs.Laws.{pick}
 use Rattle.loader.specs.Step.{ready}
 use Rattle.demands.specs.Calls.{Call, Site}
 use Rattle.demands.specs.Asked.{SaysDnload, Prepared}
-use Rattle.demands.proofs.Ways.{pick}
 
 -- the parts of eight setup bytes, and how many data bytes they ask for
 module _ (setup : List ℕ) (eight : length setup ≡ 8) where

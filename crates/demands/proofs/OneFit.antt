@@ -11,6 +11,7 @@ use borrow.Author.Tests.{eq-eqb, ne-eqb, leb-true, le-leb, lt-ltb}
 use lib.Dec.{eqb, leb}
 use lib.ListN.{length, getD, drop}
 use Rattle.flash.specs.Flash.{startOf}
+use Rattle.flash.proofs.Reaching.{facts-lie}
 use Rattle.sums.specs.Sum.{mostBlocks, freshSums}
 use Rattle.session.specs.Codes.{idle, downloadSync, downloadIdle, manifestSync, uploadIdle, error, ok, stalled}
 use Rattle.session.specs.Session.{appEnd, phaseOf, downOf, noDownload, upOf, flashStream, infoBytes}
@@ -21,19 +22,19 @@ use Rattle.session.specs.declared.Phase.{Phase}
 use Rattle.session.specs.declared.Download.{Download}
 use Rattle.session.specs.declared.Upload.{Upload}
 use Rattle.session.specs.declared.Session.{Session}
-use Rattle.session.proofs.Laws.{fit-kept, kept-fit, fit-facts, facts-fit, end-in-flash, split-facts, zeros-unfit, fresh-fit}
+use Rattle.session.proofs.Laws.{fit-kept, kept-fit, fit-facts, facts-fit, end-in-flash, split-facts, zeros-unfit, fresh-fit, fit-near, running-false}
 use Rattle.session.proofs.Tests.{left-of, right-of, or-unless, where-true, pick-most}
 use Rattle.numbers.specs.Numbers.{wordAt, longAt}
 use Rattle.request.specs.Request.{wLength}
 use Rattle.stream.proofs.Laws.{next-length}
 use Rattle.moves.specs.declared.Answer.{Answer}
 use Rattle.moves.specs.declared.Outcome.{Outcome}
-use Rattle.moves.specs.Answers.{Leaves, answerNumber, outcome}
+use Rattle.moves.specs.Answers.{Leaves, answerNumber, outcome, Told, told}
 use Rattle.moves.specs.Moves.{rewound, movedTo, toIdle, toError, stallOf, unfitOf, faultOf, resetOf}
 use Rattle.jobs.specs.Job.{Place}
 use Rattle.command.specs.Ready.{Ready}
 use Rattle.command.specs.Download.{infoOf, binOf, prefixFor}
-use Rattle.command.proofs.Laws.{ready-place}
+use Rattle.command.proofs.Laws.{pick, ready-place}
 use Rattle.loader.specs.Reply.{entered, polled, getstatusOf, getstateOf, queryOf, answered}
 use Rattle.loader.specs.Upload.{placeOf, answerOf, uploadEnds, uploadingAt, uploadedOf, uploadOf}
 use Rattle.loader.specs.Step.{startable, freshStart, startOutcome, stepOf}
@@ -41,10 +42,10 @@ use Rattle.loader.proofs.Laws.{place-in-stream, start-split, start-sized}
 use Rattle.demands.specs.Calls.{heard, Call, Site, called, next}
 use Rattle.demands.specs.One.{StaysFit, AllowedStart, StartsFit, RefusedStart, FaultStatus}
 use Rattle.demands.specs.One.{not-erased, out-of-range, bytes-missing, bad-command}
-use Rattle.demands.proofs.Ways.{pick, every-way}
+use Rattle.demands.proofs.Ways.{every-way}
 use Rattle.demands.proofs.OneOutside.{piece-place}
 use Rattle.demands.proofs.OneRefused.{refused-holds, unfit-exactly-holds}
-use Rattle.demands.proofs.Left.{wroteOf}
+use Rattle.demands.proofs.Left.{storedOf}
 
 -- an upload at the stream's first byte keeps its rule in every state
 at-start : (p : Phase) (u : Upload) → u .place ≡ 0 → uploadRule p u ≡ true
@@ -112,17 +113,14 @@ stall-fit s e = pick (λ t. fitOf t ≡ true) (eqb (s .phase .state .0) error) _
 -- to download sync that leads to download idle, with a download that lies in the application
 wrote-fit :
     (s : Session) (f : List ℕ) (at : ℕ) (bytes : List ℕ) (left : ℕ) → fitOf s ≡ true
-    → Place (s .board) at (length bytes + left) → fitOf (wroteOf s f at bytes left .outcome .session) ≡ true
-unfolding wroteOf
+    → Place (s .board) at (length bytes + left) → fitOf (storedOf s f at bytes left .outcome .session) ≡ true
+unfolding storedOf
 wrote-fit s f at bytes left e p =
     let k = fit-kept s e in
     moved-kept (withSums s _) (phaseOf downloadSync ok downloadIdle) (downOf (at + length bytes) left) (k .split) (k .range)
     (k .flags) refl refl refl refl
-    (rw (
-      le-leb (startOf (s .board .a .0)) (at + length bytes) (omega arith),
-      le-leb (at + length bytes) (startOf (appEnd (s .board))) (omega arith),
-      le-leb (at + length bytes + left) (startOf (appEnd (s .board))) (omega arith),
-    ))
+    (facts-lie (at + length bytes) left (s .board .a .0) (appEnd (s .board)) (omega arith) (omega arith)
+    (fit-near s (fit-facts s e)))
 
 -- the flags of an upload, one by one
 choice-of : (u : Upload) → flagsRule u ≡ true → u .choice ≤ 1
@@ -221,7 +219,7 @@ module _ (s : Session) (e : fitOf s ≡ true) where
         split = k .split;
         state = refl;
         status = rw (fit .status-outside no-error);
-        download = ap (λ (d : Download). downloadRule (phaseOf idle (s .phase .status .0) idle) d) (fit .no-download stopped);
+        download = ap (λ (d : Download). downloadRule (phaseOf idle (s .phase .status .0) idle) d) (fit .no-download (running-false (s .phase) stopped));
         upload = not-uploading no-upload (phaseOf idle (s .phase .status .0) idle);
         after = refl;
         range = k .range;
@@ -334,16 +332,16 @@ startable-allowed f a b e =
 -- what an allowed start leaves
 pub started :
     (f : List ℕ) (a b part0 part1 : ℕ) → AllowedStart f a b
-    → startOutcome f a b part0 part1 ≡ outcome Answer.Taken 0 (freshStart f (boardOf a b part0 part1))
+    → startOutcome f a b part0 part1 ≡ told (outcome Answer.Taken 0 (freshStart f (boardOf a b part0 part1)))
 unfolding startOutcome
 started f a b part0 part1 h = rw (allowed-startable f a b h)
 
 pub not-started :
     (f : List ℕ) (a b part0 part1 : ℕ) → (AllowedStart f a b → ⊥)
-    → startOutcome f a b part0 part1 ≡ outcome Answer.Unfit 0 zerosOf
+    → startOutcome f a b part0 part1 ≡ told (outcome Answer.Unfit 0 zerosOf)
 unfolding startOutcome
 not-started f a b part0 part1 n =
-    pick (λ o. o ≡ outcome Answer.Unfit 0 zerosOf) (startable (length f) a b) _ _
+    pick (λ (o : Told). o ≡ told (outcome Answer.Unfit 0 zerosOf)) (startable (length f) a b) _ _
     (λ e. absurd (n (startable-allowed f a b e))) (λ _. refl)
 
 pub starts-fit-holds : StartsFit startOutcome
@@ -353,11 +351,11 @@ starts-fit-holds f a b part0 part1 h =
     let board = boardOf a b part0 part1 in
     let split = start-split (length f) board (allowed-startable f a b h) in
     record {
-      answer = ap (λ (o : Outcome). answerNumber (o .answer)) e;
-      count = ap (λ (o : Outcome). o .count) e;
+      answer = ap (λ (o : Told). o .answer) e;
+      count = ap (λ (o : Told). o .count) e;
       fit =
           fit-facts (startOutcome f a b part0 part1 .session)
-          (ap (λ (o : Outcome). fitOf (o .session)) e ∙ fresh-fit board (freshSums f a (appEnd board)) split);
+          (ap (λ (o : Told). fitOf (o .session)) e ∙ fresh-fit board (freshSums f a (appEnd board)) split);
     }
 
 -- a call with an unfit session is unfit
@@ -368,11 +366,11 @@ pub refused-start-holds : RefusedStart startOutcome stepOf
 refused-start-holds f a b part0 part1 n =
     let e = not-started f a b part0 part1 n in
     let site : List ℕ → Site = λ g. record { session = startOutcome f a b part0 part1 .session; flash = g } in
-    let unfit = ap (λ (o : Outcome). fitOf (o .session)) e ∙ zeros-unfit in
+    let unfit = ap (λ (o : Told). fitOf (o .session)) e ∙ zeros-unfit in
     record {
-      answer = ap (λ (o : Outcome). answerNumber (o .answer)) e;
-      count = ap (λ (o : Outcome). o .count) e;
-      session = ap (λ (o : Outcome). o .session) e;
+      answer = ap (λ (o : Told). o .answer) e;
+      count = ap (λ (o : Told). o .count) e;
+      session = ap (λ (o : Told). o .session) e;
       later-answer = λ g c. unfit-call (site g) c unfit;
       later = λ g c. refused-holds (site g) c .unfit (unfit-call (site g) c unfit);
     }

@@ -15,8 +15,9 @@ use Rattle.numbers.specs.Numbers.{wordAt}
 use Rattle.request.specs.Request.{allowedOf, formOf, setupOf}
 use Rattle.request.specs.declared.Request.{Request}
 use Rattle.moves.specs.Moves.{stallOf, faultOf, resetOf}
-use Rattle.command.specs.Download.{wellFormed, carriedOut, commandOf, dnloadOf}
-use Rattle.loader.specs.Step.{served, stepOf}
+use Rattle.jobs.specs.Job.{carriedOut}
+use Rattle.command.specs.Download.{wellFormed, byNumber, commandOf, dnloadOf}
+use Rattle.loader.specs.Step.{served, stepOf, settled}
 use Rattle.demands.specs.Calls.{heard, Call, Site, called, next}
 use Rattle.demands.specs.Asked.{SaysDnload, Prepared, Form, Allowed, NoRequest}
 use Rattle.demands.specs.Asked.Form.{dnload}
@@ -115,18 +116,18 @@ allowed-call-met = (dnload (record { typed = refl; numbered = refl; no-index = r
 
 -- each row's answer
 pub stalled-met : heard (called stepOf small clrstatus) ≡ 1
-unfolding small freshOf formOf setupOf allowedOf stallOf
+unfolding small freshOf formOf setupOf allowedOf stallOf settled carriedOut
 stalled-met = ap heard (goes-on small clrstatus prepared-met)
 
 pub unfit-met : heard (called stepOf small noSetup) ≡ 2
 unfit-met = unfit-exactly-holds .unprepared small noSetup not-prepared-met
 
 pub faulted-met : heard (called stepOf small oneByte) ≡ 3
-unfolding small freshOf formOf setupOf allowedOf served dnloadOf commandOf wellFormed faultOf
+unfolding small freshOf formOf setupOf allowedOf served dnloadOf commandOf wellFormed faultOf settled carriedOut
 faulted-met = ap heard (goes-on small oneByte one-byte-prepared)
 
 pub reset-asked-met : heard (called stepOf small resetCommand) ≡ 4
-unfolding small freshOf formOf setupOf allowedOf served dnloadOf commandOf wellFormed carriedOut resetOf
+unfolding small freshOf formOf setupOf allowedOf served dnloadOf commandOf wellFormed byNumber settled carriedOut resetOf
 reset-asked-met = ap heard (goes-on small resetCommand reset-prepared)
 
 -- a stall in state 10: the call after the stall above, ABORT
@@ -153,7 +154,7 @@ abort-prepared =
 
 pub in-ten-met :
     (next stepOf small clrstatus .session .phase .state .0 ≡ 10) × (heard (called stepOf (next stepOf small clrstatus) abort) ≡ 1)
-unfolding formOf setupOf allowedOf stallOf
+unfolding formOf setupOf allowedOf stallOf settled carriedOut
 in-ten-met =
     let e = stalled-once .in-state in
     (e, ap heard (goes-on (next stepOf small clrstatus) abort abort-prepared) ∙ rw e)

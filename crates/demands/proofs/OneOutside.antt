@@ -26,7 +26,7 @@ use Rattle.loader.specs.Step.{stepOf}
 use Rattle.demands.specs.Calls.{called, next}
 use Rattle.demands.specs.One.{Untouched, Outside}
 use Rattle.demands.proofs.Ways.{Loads, every-way}
-use Rattle.demands.proofs.Left.{wroteOf}
+use Rattle.demands.proofs.Left.{storedOf}
 
 same : (b : Board) (f : List ℕ) → Untouched b f f
 same b f = record { as-long = refl; as-before = λ k o. refl }
@@ -48,13 +48,12 @@ pub piece-place :
     → Place (s .board) (s .down .place .0) n
 piece-place s f setup n l h =
     let fit = fit-facts s (l .fit .fit) in
-    let r : running (s .phase) ≡ true = rw (l .here) in
-    let low = fit .place-from r in
-    let high = fit .left-to r in
+    let low = fit .place-from (inl (l .here)) in
+    let high = fit .left-to (inl (l .here)) in
     record { low = low; high = omega arith }
 
 pub outside-holds : Outside stepOf
-unfolding next called wroteOf infoOf binOf stallOf unfitOf faultOf resetOf getstatusOf getstateOf queryOf answered uploadOf erased
+unfolding next called storedOf infoOf binOf stallOf unfitOf faultOf resetOf getstatusOf getstateOf queryOf answered uploadOf erased
 outside-holds at c =
     let s = at .session in
     let f = at .flash in

@@ -16,25 +16,27 @@ use Rattle.request.specs.Request.{wLength, requestOf, allowedOf}
 use Rattle.request.specs.declared.Request.{Request}
 use Rattle.moves.specs.Answers.{Leaves, leaves}
 use Rattle.moves.specs.Moves.{movedTo, toError, stallOf, unfitOf, faultOf, resetOf}
+use Rattle.jobs.specs.Job.{carriedOut}
 use Rattle.command.specs.Download.{infoOf, binOf}
+use Rattle.command.proofs.Laws.{pick}
 use Rattle.loader.specs.Reply.{getstatusOf, getstateOf, queryOf, answered}
 use Rattle.loader.specs.Upload.{uploadOf}
-use Rattle.loader.specs.Step.{ready, served, stepOf}
+use Rattle.loader.specs.Step.{ready, served, stepOf, decidedOf, only, Decided, settled}
 use Rattle.demands.specs.Calls.{heard, Call, Site, called}
 use Rattle.demands.specs.Asked.{Prepared, Form, Allowed, NoRequest}
 use Rattle.demands.specs.One.{Settled, InError, Stalled, FaultStatus, Faulted, AsFresh, AnswerRows, Refused}
 use Rattle.demands.specs.One.{UnfitExactly, StalledExactly}
-use Rattle.demands.proofs.Ways.{pick, every-way}
+use Rattle.demands.proofs.Ways.{every-way}
 use Rattle.demands.proofs.Asked.{prepared-ready, ready-prepared}
 use Rattle.demands.proofs.TwoForms.{request-form, no-request, asks-stalled}
-use Rattle.demands.proofs.Left.{wroteOf}
+use Rattle.demands.proofs.Left.{storedOf}
 
 -- a session with these groups is settled
-settled :
+so-settled :
     (s t : Session) (state status choice flag first len : ℕ) → t .board ≡ s .board → t .phase ≡ phaseOf state status 2
     → t .down ≡ downOf 0 0 → t .up ≡ upOf choice flag first len 0 → t .sums ≡ s .sums
     → Settled s t state status choice flag first len
-settled s t state status choice flag first len board phase down up sums =
+so-settled s t state status choice flag first len board phase down up sums =
     record {
       board = board;
       in-state = ap (λ (p : Phase). p .state .0) phase;
@@ -54,12 +56,12 @@ settled s t state status choice flag first len board phase down up sums =
 errored : (s : Session) (status : ℕ) → InError s (toError s status) status
 unfolding movedTo
 errored s status =
-    settled s (toError s status) 10 status (s .up .choice) (s .up .«prefix») (s .up .first .0) (s .up .len) refl refl refl refl refl
+    so-settled s (toError s status) 10 status (s .up .choice) (s .up .«prefix») (s .up .first .0) (s .up .len) refl refl refl refl refl
 
 freshened : (s : Session) → AsFresh s (resetOf s .session)
 unfolding resetOf freshOf wholeUpload
 freshened s =
-    settled s (resetOf s .session) 2 0 0 1 (s .board .a .0) (startOf (appEnd (s .board) - s .board .a .0)) refl refl refl refl refl
+    so-settled s (resetOf s .session) 2 0 0 1 (s .board .a .0) (startOf (appEnd (s .board) - s .board .a .0)) refl refl refl refl refl
 
 stalled-row :
     (at : Site) (c : Call) → NoRequest at c
@@ -104,7 +106,7 @@ in-form at c p q = (
 )
 
 prepared-rows : (at : Site) (c : Call) → Prepared at c → AnswerRows at c (called stepOf at c)
-unfolding called wroteOf infoOf binOf unfitOf stallOf faultOf resetOf getstatusOf getstateOf queryOf answered uploadOf
+unfolding called storedOf infoOf binOf unfitOf stallOf faultOf resetOf getstatusOf getstateOf queryOf answered uploadOf
 prepared-rows at c p =
     let s = at .session in
     every-way s (at .flash) (c .setup) (c .bytes) (c .reply) (AnswerRows at c)
@@ -165,7 +167,7 @@ unfit-rows at c =
 unready :
     (at : Site) (c : Call) → ready (at .session) (length (at .flash)) (c .setup) (length (c .bytes)) (length (c .reply)) ≡ false
     → called stepOf at c ≡ leaves (unfitOf (at .session)) (at .flash) (c .reply)
-unfolding called stepOf
+unfolding called stepOf decidedOf settled carriedOut
 unready at c e = rw e
 
 pub refused-holds : Refused stepOf
@@ -179,14 +181,14 @@ refused-holds at c = go (ready (at .session) (length (at .flash)) (c .setup) (le
 
 module _ (at : Site) (c : Call) where
   unprepared-unfit : (Prepared at c → ⊥) → heard (called stepOf at c) ≡ 2
-  unfolding called stepOf unfitOf
+  unfolding called stepOf decidedOf settled carriedOut unfitOf
   unprepared-unfit n =
-      pick (λ (l : Leaves). heard l ≡ 2)
+      pick (λ (x : Decided). heard (settled x (at .flash) (c .bytes)) ≡ 2)
       (ready (at .session) (length (at .flash)) (c .setup) (length (c .bytes)) (length (c .reply))) _ _
       (λ e. absurd (n (ready-prepared at c e))) (λ _. refl)
 
   prepared-served : Prepared at c → heard (called stepOf at c) ≡ 2 → ⊥
-  unfolding called wroteOf infoOf binOf stallOf faultOf resetOf getstatusOf getstateOf queryOf answered uploadOf
+  unfolding called storedOf infoOf binOf stallOf faultOf resetOf getstatusOf getstateOf queryOf answered uploadOf
   prepared-served p =
       every-way (at .session) (at .flash) (c .setup) (c .bytes) (c .reply) (λ (l : Leaves). heard l ≡ 2 → ⊥)
       (record {
@@ -220,10 +222,12 @@ allowedCall at c = allowedOf (requestOf (c .setup)) (wLength (c .setup)) (at .se
 pub goes-on :
     (at : Site) (c : Call) → Prepared at c
     → called stepOf at c
-    ≡ cond (allowedCall at c)
+    ≡ settled
+    (cond (allowedCall at c)
     (served (requestOf (c .setup)) (at .session) (at .flash) (wLength (c .setup)) (c .bytes) (c .reply))
-    (leaves (stallOf (at .session)) (at .flash) (c .reply))
-unfolding called stepOf
+    (only (stallOf (at .session)) (c .reply))) (at .flash)
+    (c .bytes)
+unfolding called stepOf decidedOf
 goes-on at c p = rw (prepared-ready at c p)
 
 unallowed-stalls : (at : Site) (c : Call) → Prepared at c → NoRequest at c → heard (called stepOf at c) ≡ 1

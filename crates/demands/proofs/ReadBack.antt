@@ -14,7 +14,7 @@ use Rattle.sums.specs.declared.Sums.{Sums}
 use Rattle.session.specs.Session.{downOf, noDownload, appEnd, freshOf, wholeUpload}
 use Rattle.session.specs.Rules.{inApplication, splitRule, fitOf}
 use Rattle.session.specs.declared.Board.{Board}
-use Rattle.session.proofs.Laws.{fit-kept, fit-facts, facts-fit, end-in-flash, inside-facts, fresh-fit}
+use Rattle.session.proofs.Laws.{fit-kept, fit-facts, facts-fit, end-in-flash, inside-facts, fresh-fit, fit-near}
 use Rattle.request.specs.Request.{allowedOf}
 use Rattle.stream.specs.Stream.{headerOf}
 use Rattle.moves.specs.Moves.{movedTo}
@@ -70,7 +70,7 @@ module _ (at : Site) (lent : List ℕ) (block len : ℕ) (m : MayReadBack at len
   split = fit-kept (at .session) fit .split
 
   legal : inApplication board block len ≡ true
-  legal = legal-in at block len (m .legal)
+  legal = legal-in at block len (fit-near (at .session) (m .fit)) (m .legal)
 
   -- the first part
   reads-on :
@@ -98,7 +98,7 @@ module _ (at : Site) (lent : List ℕ) (block len : ℕ) (m : MayReadBack at len
   -- the second part
   blocks-in-flash : startOf block + startOf (nextStart len) ≤ length (at .flash)
   blocks-in-flash =
-      let inside = inside-facts board block (startOf (nextStart len)) (blocks-legal board block len legal) in
+      let inside = inside-facts board block (startOf (nextStart len)) (blocks-legal board block len split legal) in
       omega (arith, m .sized, end-in-flash board)
 
   cleared-flash : List ℕ

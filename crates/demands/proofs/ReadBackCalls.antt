@@ -13,16 +13,17 @@ use Rattle.request.specs.Request.{setupOf, formOf, requestOf, wLength, dataAske
 use Rattle.moves.specs.declared.Answer.{Answer}
 use Rattle.moves.specs.Answers.{Leaves, outcome, leaves}
 use Rattle.moves.specs.Moves.{toIdle, takenOf}
+use Rattle.jobs.specs.Job.{carriedOut}
 use Rattle.command.specs.Ready.{Ready}
 use Rattle.command.specs.Download.{dnloadOf}
 use Rattle.loader.specs.Reply.{getstatusOf}
 use Rattle.loader.specs.Upload.{uploadOf}
-use Rattle.loader.specs.Step.{ready, served, stepOf, withReply}
+use Rattle.loader.specs.Step.{ready, served, stepOf, withReply, decidedOf, settled, Decided}
 use Rattle.demands.specs.Calls.{Call, Site, called, next}
 use Rattle.demands.proofs.Asked.{prepared-from, prepared-ready}
 use Rattle.demands.specs.ReadBack.{Host, asks, replied, wasTaken, ranAfter, run}
 use Rattle.demands.specs.ReadBack.{setupFor, dnload, upload, poll, abort}
-use Rattle.demands.proofs.Left.{withFlash}
+use Rattle.demands.proofs.Left.{withFlash, finished}
 
 -- a session and the flash that it speaks of
 abbrev pub siteOf : Session → List ℕ → Site
@@ -72,19 +73,20 @@ module _
 
   pub is-served :
       (q : Request) (n : ℕ) → requestOf setup ≡ q → wLength setup ≡ n → allowedOf q n (s .phase .state .0) ≡ true
-      → stepOf s f setup d reply ≡ served q s f n d reply
-  unfolding stepOf
+      → stepOf s f setup d reply ≡ settled (served q s f n d reply) f d
+  unfolding stepOf decidedOf
   is-served q n e l a =
       let allowed : allowedOf (requestOf setup) (wLength setup) (s .phase .state .0) ≡ true =
       ap₂ (λ (x : Request) (m : ℕ). allowedOf x m (s .phase .state .0)) e l ∙ a
       in
-      is-yes _ _ _ is-ready ∙ is-yes _ _ _ allowed ∙ ap₂ (λ (x : Request) (m : ℕ). served x s f m d reply) e l
+      ap (λ (x : Decided). settled x f d)
+      (is-yes _ _ _ is-ready ∙ is-yes _ _ _ allowed ∙ ap₂ (λ (x : Request) (m : ℕ). served x s f m d reply) e l)
 
 -- the host's calls
 module _ (s : Session) (f lent : List ℕ) (r : Ready s f) (room : 1024 ≤ length lent) where
   pub dnload-called :
       (d : List ℕ) → length d ≤ 1024 → allowedOf Request.Dnload (length d) (s .phase .state .0) ≡ true
-      → called stepOf (siteOf s f) (dnload lent d) ≡ withReply (dnloadOf s f d) lent
+      → called stepOf (siteOf s f) (dnload lent d) ≡ finished (dnloadOf s f d) f d lent
   unfolding called dnload served setupFor
   dnload-called d few a =
       is-served s f (setupFor 0x21 1 (length d)) d lent r room refl (sym (dnload-asked (length d) few)) Request.Dnload (length d)
@@ -93,17 +95,17 @@ module _ (s : Session) (f lent : List ℕ) (r : Ready s f) (room : 1024 ≤ leng
   pub upload-called :
       allowedOf Request.Upload 1024 (s .phase .state .0) ≡ true
       → called stepOf (siteOf s f) (upload lent) ≡ withFlash (uploadOf s f 1024 lent) f
-  unfolding called upload served setupFor setupOf formOf dataAsked
+  unfolding called upload served settled carriedOut setupFor setupOf formOf dataAsked
   upload-called a = is-served s f (setupFor 0xA1 2 1024) [] lent r room refl refl Request.Upload 1024 refl refl a
 
   pub poll-called :
       allowedOf Request.GetStatus 6 (s .phase .state .0) ≡ true
       → called stepOf (siteOf s f) (poll lent) ≡ withFlash (getstatusOf s lent) f
-  unfolding called poll served setupFor setupOf formOf dataAsked
+  unfolding called poll served settled carriedOut setupFor setupOf formOf dataAsked
   poll-called a = is-served s f (setupFor 0xA1 3 6) [] lent r room refl refl Request.GetStatus 6 refl refl a
 
   pub abort-called :
       allowedOf Request.Abort 0 (s .phase .state .0) ≡ true
       → called stepOf (siteOf s f) (abort lent) ≡ leaves (takenOf (toIdle s)) f lent
-  unfolding called abort served setupFor setupOf formOf dataAsked
+  unfolding called abort served settled carriedOut setupFor setupOf formOf dataAsked
   abort-called a = is-served s f (setupFor 0x21 6 0) [] lent r room refl refl Request.Abort 0 refl refl a

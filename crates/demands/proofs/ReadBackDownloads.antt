@@ -25,17 +25,18 @@ use Rattle.request.specs.Request.{allowedOf}
 use Rattle.stream.specs.Stream.{headerOf}
 use Rattle.moves.specs.Answers.{Done, leaves}
 use Rattle.moves.specs.Moves.{movedTo, takenOf}
-use Rattle.jobs.specs.Job.{sumsAfter}
-use Rattle.command.specs.Download.{nothing, allErased, progOf, wellFormed, carriedOut, pieceOf, dnloadOf}
+use Rattle.jobs.specs.Job.{sumsAfter, carriedOut}
+use Rattle.jobs.specs.declared.Plan.{Plan}
+use Rattle.command.specs.Download.{nothing, allErased, progOf, wellFormed, byNumber, pieceOf, dnloadOf}
 use Rattle.loader.specs.Reply.{entered, polled}
-use Rattle.loader.specs.Step.{withReply, stepOf}
+use Rattle.loader.specs.Step.{withReply, stepOf, settled}
 use Rattle.demands.specs.Calls.{Site, called}
 use Rattle.demands.specs.ReadBack.{Host, asks, Ran, run, dnload, poll, sends}
 use Rattle.demands.proofs.ReadBackCalls.{siteOf, on-taken, is-yes, is-no, dnload-called}
 use Rattle.demands.proofs.ReadBackSessions.{inState, atIdle, atPiece, atDownload, idle-fit, piece-fit, download-fit}
 use Rattle.demands.proofs.ReadBackParts.{polled-on, command-called, near}
 use Rattle.demands.proofs.ReadBackUploads.{Pieces, none, more}
-use Rattle.demands.proofs.Left.{wroteOf}
+use Rattle.demands.proofs.Left.{storedOf, finished, bytes-finished}
 
 -- what the downloads of some bytes to an address leave: all taken, the bytes in their places, and none left to come
 pub record Filled (r : Ran Unit) (g : List ℕ) (at : ℕ) (xs : List ℕ) : Type 0 where
@@ -105,11 +106,12 @@ module _
       (takenOf (loaded (at + length d) (left - length d) (sumsAfter (base .board) sums (spliced g at d) at (length d))))
       (spliced g at d)
       lent
-  unfolding loaded loading dnloadOf pieceOf wroteOf movedTo allowedOf
+  unfolding loaded loading dnloadOf pieceOf storedOf movedTo allowedOf
   piece-called g at left sums d w some few fits =
       dnload-called (loading at left sums) g lent
       (record { fit = download-fit base block len split legal sums at left (w .from) (w .to); sized = w .sized }) room d few refl
-      ∙ ap (λ (x : Done). withReply x lent) (is-no _ _ _ (ne-eqb (length d) 0 (omega arith)) ∙ is-yes _ _ _ (le-leb _ _ fits))
+      ∙ ap (λ (x : Plan). finished x g d lent) (is-no _ _ _ (ne-eqb (length d) 0 (omega arith)) ∙ is-yes _ _ _ (le-leb _ _ fits))
+      ∙ bytes-finished (loading at left sums) g d lent at 0 (length d) (left - length d) refl
 
   filled :
       {ps : List (List ℕ)} {xs : List ℕ} → Pieces ps xs → (g : List ℕ) (at left : ℕ) (sums : Sums) → Ahead g at left
@@ -149,7 +151,7 @@ module _
         (sumsAfter (base .board) sums (spliced g (startOf block) x) (startOf block) (length x))))
         (spliced g (startOf block) x)
         lent
-    unfolding waiting loaded headerOf wellFormed carriedOut progOf wroteOf allErased movedTo
+    unfolding waiting loaded headerOf wellFormed byNumber progOf storedOf allErased movedTo
     prog-called x few fits =
         let s = inState base block len atIdle noDownload 0 sums in
         let d = header ++ x in
@@ -157,10 +159,13 @@ module _
         let well : wellFormed d ≡ true = rw (le-leb 8 (length d) (omega arith)) in
         let the-block : wordAt d 2 ≡ block = omega arith in
         let the-length : longAt d 4 ≡ len = four-bytes len (omega arith) in
+        let brought : length d - 8 ≡ length x = omega arith in
         command-called s g lent (record { fit = idle-fit base block len split legal sums; sized = sized }) room d refl well (omega arith)
-        ∙ ap₂ (λ (b n : ℕ). withReply (progOf s g b n x) lent) the-block the-length
-        ∙ ap (λ (y : Done). withReply y lent)
+        ∙ ap (λ (m : ℕ). finished (progOf s g (wordAt d 2) (longAt d 4) m) g d lent) brought
+        ∙ ap₂ (λ (b n : ℕ). finished (progOf s g b n (length x)) g d lent) the-block the-length
+        ∙ ap (λ (y : Plan). finished y g d lent)
         (is-yes _ _ _ legal ∙ is-yes _ _ _ (le-leb _ _ fits) ∙ is-yes _ _ _ (ap nothing (blank-searched g block len all-blank)))
+        ∙ bytes-finished s g d lent (startOf block) 8 (length x) (len - length x) refl
 
     first-sent :
         {ps : List (List ℕ)} {rest : List ℕ} (x : List ℕ) → Pieces ps rest → 8 + length x ≤ 1024

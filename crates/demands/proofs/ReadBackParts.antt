@@ -14,19 +14,22 @@ use Rattle.session.specs.Session.{noDownload, upOf, withUp, appEnd, flashStream
 use Rattle.session.specs.Rules.{splitRule, inApplication}
 use Rattle.session.specs.declared.Board.{Board}
 use Rattle.session.specs.declared.Session.{Session}
-use Rattle.session.proofs.Laws.{fit-kept, split-facts, end-in-flash, inside-facts}
+use Rattle.session.proofs.Laws.{fit-kept, split-facts, end-in-flash, inside-facts, facts-inside}
 use Rattle.numbers.specs.Numbers.{wordAt, longAt}
 use Rattle.numbers.proofs.Laws.{four-bytes}
 use Rattle.request.specs.Request.{allowedOf}
 use Rattle.moves.specs.Answers.{Done, leaves}
 use Rattle.moves.specs.Moves.{movedTo, toSync, takenOf}
+use Rattle.jobs.specs.Job.{carriedOut, wipeDone, sumsWiped}
+use Rattle.jobs.specs.declared.Plan.{Plan}
 use Rattle.command.specs.Ready.{Ready}
-use Rattle.command.specs.Download.{dnloadOf, commandOf, carriedOut, wellFormed, readOf, eraseOf}
+use Rattle.command.specs.Download.{dnloadOf, commandOf, byNumber, wellFormed, readOf, eraseOf}
 use Rattle.command.proofs.Laws.{long-enough}
 use Rattle.loader.specs.Reply.{answered, polled, getstatusOf}
-use Rattle.loader.specs.Step.{withReply, stepOf}
+use Rattle.loader.specs.Step.{withReply, stepOf, settled}
 use Rattle.demands.specs.Calls.{called}
 use Rattle.demands.specs.ReadBack.{Host, ends, asks, run, dnload, poll, readCommand, eraseCommand}
+use Rattle.demands.proofs.Left.{finished}
 use Rattle.demands.proofs.ReadBackCalls.{siteOf, on-taken, is-yes, dnload-called, poll-called}
 use Rattle.demands.proofs.ReadBackSessions.{inState, atIdle, atCommand}
 use Rattle.demands.proofs.ReadBackSessions.{idle-fit}
@@ -40,12 +43,12 @@ module _ (s : Session) (f lent : List ℕ) (r : Ready s f) (room : 1024 ≤ leng
   -- a well-formed command in state idle is carried out
   pub command-called :
       (d : List ℕ) → s .phase .state .0 ≡ idle → wellFormed d ≡ true → length d ≤ 1024
-      → called stepOf (siteOf s f) (dnload lent d) ≡ withReply (carriedOut (getD d 0 0) s f d) lent
+      → called stepOf (siteOf s f) (dnload lent d) ≡ finished (byNumber (getD d 0 0) s f d) f d lent
   unfolding dnloadOf commandOf allowedOf
   command-called d in-idle w few =
       let long = long-enough d w in
       dnload-called s f lent r room d few (rw (in-idle, ne-eqb (length d) 0 (omega arith)))
-      ∙ ap (λ (x : Done). withReply x lent) (is-yes _ _ _ (eq-eqb _ _ in-idle) ∙ is-yes _ _ _ w)
+      ∙ ap (λ (x : Plan). finished x f d lent) (is-yes _ _ _ (eq-eqb _ _ in-idle) ∙ is-yes _ _ _ w)
 
 -- a range of the application isn't empty, its block and the count of its blocks have 16 bits, its length has 32
 module _ (board : Board) (block len : ℕ) (split : splitRule board ≡ true) (legal : inApplication board block len ≡ true) where
@@ -63,7 +66,7 @@ pub read-called :
     → inApplication (s .board) block len ≡ true
     → called stepOf (siteOf s f) (dnload lent (readCommand block len))
     ≡ leaves (takenOf (inState s block len atCommand noDownload 0 (s .sums))) f lent
-unfolding readCommand wellFormed carriedOut readOf movedTo
+unfolding readCommand wellFormed byNumber settled carriedOut readOf movedTo
 read-called s f lent block len r room in-idle prefixed legal =
     let small = near (s .board) block len (fit-kept s (r .fit) .split) legal in
     let the-block : wordAt (readCommand block len) 2 ≡ block = omega arith in
@@ -75,15 +78,14 @@ read-called s f lent block len r room in-idle prefixed legal =
 
 -- the blocks that the range touches lie in the application too
 pub blocks-legal :
-    (board : Board) (block len : ℕ) → inApplication board block len ≡ true
+    (board : Board) (block len : ℕ) → splitRule board ≡ true → inApplication board block len ≡ true
     → inApplication board block (startOf (nextStart len)) ≡ true
-blocks-legal board block len legal =
+blocks-legal board block len split legal =
     let inside = inside-facts board block len legal in
-    rw (
-      lt-ltb 0 (startOf (nextStart len)) (omega arith),
-      le-leb _ _ (inside .from),
-      le-leb (startOf block + startOf (nextStart len)) (startOf (appEnd board)) (omega arith),
-    )
+    let few = split-facts board split in
+    let ends = end-in-flash board in
+    facts-inside board block (startOf (nextStart len)) (omega arith)
+    (record { some = omega arith; from = inside .from; to = omega arith })
 
 -- ERASE
 module _ (board : Board) (block len : ℕ) (sums : Sums) (f : List ℕ) where
@@ -99,7 +101,7 @@ module _
       ≡ leaves (takenOf (inState base block len atCommand noDownload 0 (wiped-sums (base .board) block len sums f)))
       (erased f block (nextStart len))
       lent
-  unfolding eraseCommand wellFormed carriedOut eraseOf movedTo
+  unfolding eraseCommand wellFormed byNumber eraseOf settled carriedOut wipeDone sumsWiped movedTo
   erase-called =
       let s = inState base block len atIdle noDownload 0 sums in
       let small = near (base .board) block len split legal in
@@ -108,5 +110,6 @@ module _
       let the-count : wordAt (eraseCommand block count) 4 ≡ count = omega arith in
       command-called s f lent (record { fit = idle-fit base block len split legal sums; sized = sized }) room
       (eraseCommand block count) refl refl (omega arith)
-      ∙ ap₂ (λ (b n : ℕ). withReply (eraseOf s f b n) lent) the-block the-count
-      ∙ ap (λ (x : Done). withReply x lent) (is-yes _ _ _ (blocks-legal (base .board) block len legal))
+      ∙ ap₂ (λ (b n : ℕ). finished (eraseOf s b n) f (eraseCommand block count) lent) the-block the-count
+      ∙ ap (λ (x : Plan). finished x f (eraseCommand block count) lent)
+      (is-yes _ _ _ (blocks-legal (base .board) block len split legal))

@@ -8,8 +8,9 @@ use native.Mathlib.Omega.{arith}
 use borrow.Author.Tests.{le-leb}
 use lib.Dec.{eqb, leb}
 use lib.ListN.{length, length-append}
-use Rattle.flash.specs.Flash.{startOf, range}
+use Rattle.flash.specs.Flash.{startOf, range, liesIn}
 use Rattle.flash.proofs.Laws.{length-range}
+use Rattle.flash.proofs.Reaching.{facts-lie}
 use Rattle.sums.specs.declared.Sums.{Sums}
 use Rattle.session.specs.Codes.{idle, downloadSync, downloadIdle, uploadIdle, ok}
 use Rattle.session.specs.Session.{phaseOf, downOf, noDownload, upOf, appEnd, flashStream, streamLength}
@@ -19,7 +20,7 @@ use Rattle.session.specs.declared.Board.{Board}
 use Rattle.session.specs.declared.Phase.{Phase}
 use Rattle.session.specs.declared.Download.{Download}
 use Rattle.session.specs.declared.Session.{Session}
-use Rattle.session.proofs.Laws.{kept-fit}
+use Rattle.session.proofs.Laws.{kept-fit, split-facts, end-in-flash}
 use Rattle.stream.specs.Stream.{headerOf, prefixOf, streamOf}
 use Rattle.stream.proofs.Laws.{header-length}
 
@@ -97,12 +98,11 @@ module _
   upload-fit place h = state-fit atUpload noDownload place refl refl refl refl h refl refl
 
   module _ (at left : ℕ) (from : startOf (base .board .a .0) ≤ at) (to : at + left ≤ startOf (appEnd (base .board))) where
-    placed :
-        (leb (startOf (base .board .a .0)) at
-        && leb at (startOf (appEnd (base .board)))
-        && leb (at + left) (startOf (appEnd (base .board))))
-        ≡ true
-    placed = rw (le-leb _ _ from, le-leb at (startOf (appEnd (base .board))) (omega arith), le-leb _ _ to)
+    placed : liesIn at left (base .board .a .0) (appEnd (base .board)) ≡ true
+    placed =
+        let few = split-facts (base .board) split in
+        let ends = end-in-flash (base .board) in
+        facts-lie at left (base .board .a .0) (appEnd (base .board)) from to (omega arith)
 
     pub piece-fit : fitOf (inState base block len atPiece (downOf at left) 0 sums) ≡ true
     piece-fit = state-fit atPiece (downOf at left) 0 refl refl refl refl (omega arith) refl placed

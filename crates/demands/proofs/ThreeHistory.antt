@@ -20,22 +20,22 @@ use Rattle.session.specs.declared.Session.{Session}
 use Rattle.session.proofs.Laws.{inside-facts}
 use Rattle.numbers.specs.Numbers.{wordAt, longAt}
 use Rattle.moves.specs.declared.Outcome.{Outcome}
-use Rattle.moves.specs.Answers.{Leaves}
+use Rattle.moves.specs.Answers.{Leaves, Told}
 use Rattle.moves.specs.Moves.{movedTo, stallOf, unfitOf, faultOf, resetOf}
 use Rattle.jobs.specs.Job.{Place, sumsAfter}
 use Rattle.command.specs.Ready.{Ready}
 use Rattle.command.specs.Download.{infoOf, binOf}
-use Rattle.command.proofs.Laws.{ready-split, ready-within, ready-place, ready-range}
+use Rattle.command.proofs.Laws.{pick, ready-split, ready-within, ready-place, ready-range}
 use Rattle.loader.specs.Reply.{polled, getstatusOf, getstateOf, queryOf, answered}
 use Rattle.loader.specs.Upload.{uploadEnds, uploadingAt, uploadedOf, uploadOf}
 use Rattle.loader.specs.Step.{freshStart, startOutcome, stepOf}
 use Rattle.demands.specs.Calls.{begun, Call, Site, called, next, after}
 use Rattle.demands.specs.One.{Untouched, AllowedStart}
 use Rattle.demands.specs.Three.{Held, History}
-use Rattle.demands.proofs.Ways.{pick, every-way}
+use Rattle.demands.proofs.Ways.{every-way}
 use Rattle.demands.proofs.OneOutside.{outside-holds, piece-place}
 use Rattle.demands.proofs.OneFit.{stays-fit-holds, starts-fit-holds, started}
-use Rattle.demands.proofs.Left.{wroteOf}
+use Rattle.demands.proofs.Left.{storedOf}
 
 -- no bytes change nothing
 empty-spliced : (f : List ℕ) (at : ℕ) (bytes : List ℕ) → at ≤ length f → length bytes ≡ 0 → spliced f at bytes ≡ f
@@ -82,7 +82,7 @@ module _ (s : Session) (f : List ℕ) (r : Ready s f) (right : Summed s f) where
 
 -- no call changes the board
 board-stays : (at : Site) (c : Call) → next stepOf at c .session .board ≡ at .session .board
-unfolding next called wroteOf infoOf binOf movedTo stallOf unfitOf faultOf resetOf freshOf polled getstatusOf getstateOf queryOf
+unfolding next called storedOf infoOf binOf movedTo stallOf unfitOf faultOf resetOf freshOf polled getstatusOf getstateOf queryOf
     answered uploadOf uploadedOf uploadingAt
 board-stays at c =
     let s = at .session in
@@ -111,7 +111,7 @@ board-stays at c =
 sums-stay :
     (at : Site) (c : Call) → Summed (at .session) (at .flash)
     → Right (next stepOf at c .session .sums) (next stepOf at c .flash) (at .session .board .a .0) (appEnd (at .session .board))
-unfolding next called wroteOf infoOf binOf movedTo stallOf unfitOf faultOf resetOf freshOf polled getstatusOf getstateOf queryOf
+unfolding next called storedOf infoOf binOf movedTo stallOf unfitOf faultOf resetOf freshOf polled getstatusOf getstateOf queryOf
     answered uploadOf uploadedOf uploadingAt
 sums-stay at c right =
     let s = at .session in
@@ -180,10 +180,10 @@ held-begun f a b part0 part1 h =
     let e = started f a b part0 part1 h in
     let board = boardOf a b part0 part1 in
     record {
-      board-kept = ap (λ (o : Outcome). o .session .board) e;
+      board-kept = ap (λ (o : Told). o .session .board) e;
       fit = starts-fit-holds f a b part0 part1 h .fit;
       sums-right =
-          subst⁻¹ (λ (o : Outcome). Right (o .session .sums) f a (appEnd board)) e (fresh-right f a (appEnd board));
+          subst⁻¹ (λ (o : Told). Right (o .session .sums) f a (appEnd board)) e (fresh-right f a (appEnd board));
       outside-kept = record { as-long = refl; as-before = λ k o. refl };
     }
 

@@ -7,14 +7,13 @@ use Rattle.session.specs.Session.{appEnd, streamLength, wholeUpload, freshOf}
 use Rattle.session.specs.Rules.{fitOf}
 use Rattle.request.specs.Request.{formOf, setupOf, dataAsked, allowedOf}
 use Rattle.moves.specs.Moves.{movedTo}
-use Rattle.jobs.specs.Job.{sumsAfter}
-use Rattle.command.specs.Download.{allErased, progOf, wellFormed, carriedOut, commandOf, pieceOf, dnloadOf}
+use Rattle.jobs.specs.Job.{sumsAfter, carriedOut, bytesDone}
+use Rattle.command.specs.Download.{allErased, progOf, wellFormed, byNumber, commandOf, pieceOf, dnloadOf, wroteOf}
 use Rattle.loader.specs.Reply.{answered, entered, polled, pollTime, getstatusOf}
-use Rattle.loader.specs.Step.{startable, freshStart, startOutcome, ready, served, stepOf}
+use Rattle.loader.specs.Step.{startable, freshStart, startOutcome, ready, served, stepOf, settled, decidedOf}
 use Rattle.demands.specs.Calls.{begun, Call, Site, called, next, after}
 use Rattle.demands.specs.Three.{NamedRange, none, commandNames, tookDnload, mayChange, noteOf, notedAfter}
 use Rattle.demands.proofs.Small.{smallFlash, lent}
-use Rattle.demands.proofs.Left.{wroteOf}
 
 -- PROG of two bytes in block 1, the first of them with it; a poll; the second byte
 abbrev pub prog : Call
@@ -42,7 +41,7 @@ pub record Continues : Type 0 where
 
 pub only-named-met : Continues
 unfolding before startSite begun blank range spliced firstIn searched appEnd streamLength wholeUpload freshOf fitOf formOf setupOf
-    dataAsked allowedOf movedTo allErased sumsAfter wroteOf progOf wellFormed carriedOut commandOf pieceOf dnloadOf answered
+    dataAsked allowedOf movedTo allErased sumsAfter wroteOf bytesDone decidedOf progOf wellFormed byNumber settled carriedOut commandOf pieceOf dnloadOf answered
     entered polled pollTime getstatusOf startable freshStart startOutcome ready served stepOf called next after commandNames
     tookDnload mayChange noteOf notedAfter
 only-named-met = record { noted = refl; may = λ r. refl; erased-yet = refl; written = refl }

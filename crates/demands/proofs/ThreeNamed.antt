@@ -22,10 +22,10 @@ use Rattle.numbers.specs.Numbers.{wordAt, longAt}
 use Rattle.request.specs.Request.{requestOf}
 use Rattle.request.specs.declared.Request.{Request}
 use Rattle.moves.specs.declared.Outcome.{Outcome}
-use Rattle.moves.specs.Answers.{Leaves}
+use Rattle.moves.specs.Answers.{Leaves, Told}
 use Rattle.moves.specs.Moves.{movedTo, stallOf, unfitOf, faultOf, resetOf}
 use Rattle.command.specs.Download.{infoOf, binOf}
-use Rattle.command.proofs.Laws.{ready-within, ready-range}
+use Rattle.command.proofs.Laws.{pick, ready-within, ready-range}
 use Rattle.loader.specs.Reply.{entered, polled, getstatusOf, getstateOf, queryOf, answered}
 use Rattle.loader.specs.Upload.{uploadEnds, uploadingAt, uploadedOf, uploadOf}
 use Rattle.loader.specs.Step.{freshStart, startOutcome, stepOf}
@@ -33,10 +33,10 @@ use Rattle.demands.specs.Calls.{begun, heard, Call, Site, called, next, 
 use Rattle.demands.specs.One.{AllowedStart}
 use Rattle.demands.specs.Three.{NamedRange, none, NotNamed, progNames, eraseNames, commandNames, isDnload, tookDnload}
 use Rattle.demands.specs.Three.{ChangesNamed, mayChange, noteOf, notedAfter, OnlyNamed}
-use Rattle.demands.proofs.Ways.{pick, every-way}
+use Rattle.demands.proofs.Ways.{every-way}
 use Rattle.demands.proofs.OneOutside.{piece-place}
 use Rattle.demands.proofs.OneFit.{started, entered-sync, entered-manifest, entered-same}
-use Rattle.demands.proofs.Left.{wroteOf}
+use Rattle.demands.proofs.Left.{storedOf}
 
 no-right : (a b : Bool) → b ≡ false → (a && b) ≡ false
 no-right true b e = e
@@ -96,7 +96,7 @@ pub record Covers (noted : NamedRange) (s : Session) : Type 0 where
 
 -- a call changes only what it may
 changes-named : (noted : NamedRange) (at : Site) (c : Call) → Covers noted (at .session) → ChangesNamed stepOf noted at c
-unfolding next called wroteOf infoOf binOf stallOf unfitOf faultOf resetOf getstatusOf getstateOf queryOf answered uploadOf erased
+unfolding next called storedOf infoOf binOf stallOf unfitOf faultOf resetOf getstatusOf getstateOf queryOf answered uploadOf erased
 changes-named noted at c covers k =
     let s = at .session in
     let f = at .flash in
@@ -188,15 +188,15 @@ upload-stops s asked given =
 -- a write goes on behind its bytes
 wrote-covers :
     (r : NamedRange) (s : Session) (f : List ℕ) (at : ℕ) (bytes : List ℕ) (left : ℕ) → r .at ≤ at
-    → at + length bytes + left ≤ r .at + r .size → Covers r (wroteOf s f at bytes left .outcome .session)
-unfolding wroteOf movedTo
+    → at + length bytes + left ≤ r .at + r .size → Covers r (storedOf s f at bytes left .outcome .session)
+unfolding storedOf movedTo
 wrote-covers r s f at bytes left low high = record { low = λ _. omega arith; high = λ _. high }
 
 -- what is noted covers the download after a call
 covers-next :
     (noted : NamedRange) (at : Site) (c : Call) → Covers noted (at .session)
     → Covers (noteOf noted (at .session) c (called stepOf at c)) (next stepOf at c .session)
-unfolding next called wroteOf infoOf binOf movedTo stallOf unfitOf faultOf resetOf freshOf polled getstatusOf getstateOf queryOf
+unfolding next called storedOf infoOf binOf movedTo stallOf unfitOf faultOf resetOf freshOf polled getstatusOf getstateOf queryOf
     answered uploadOf
 covers-next noted at c covers =
     let s = at .session in
@@ -251,7 +251,7 @@ covers-after noted at (c ∷ cs) h = covers-after _ (next stepOf at c) cs (cover
 start-stops :
     (f : List ℕ) (a b part0 part1 : ℕ) → AllowedStart f a b → running (begun startOutcome f a b part0 part1 .session .phase) ≡ false
 unfolding begun freshStart freshOf
-start-stops f a b part0 part1 h = ap (λ (o : Outcome). running (o .session .phase)) (started f a b part0 part1 h)
+start-stops f a b part0 part1 h = ap (λ (o : Told). running (o .session .phase)) (started f a b part0 part1 h)
 
 pub only-named-holds : OnlyNamed startOutcome stepOf
 only-named-holds f a b part0 part1 h calls c =

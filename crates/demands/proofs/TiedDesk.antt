@@ -18,11 +18,11 @@ use Rattle.request.specs.Request.{setupOf, formOf, requestOf, wLength, dataAske
 use Rattle.moves.specs.declared.Answer.{Answer}
 use Rattle.moves.specs.Answers.{Leaves, outcome, leaves}
 use Rattle.moves.specs.Moves.{movedTo, stallOf, faultOf}
-use Rattle.jobs.specs.Job.{sumsAfter}
-use Rattle.command.specs.Download.{allErased, progOf, eraseOf, wellFormed}
-use Rattle.command.specs.Download.{carriedOut, commandOf, closedOf, pieceOf, dnloadOf}
+use Rattle.jobs.specs.Job.{sumsAfter, carriedOut, wipeDone, bytesDone, sumsWiped}
+use Rattle.command.specs.Download.{allErased, progOf, eraseOf, wellFormed, wroteOf}
+use Rattle.command.specs.Download.{byNumber, commandOf, closedOf, pieceOf, dnloadOf}
 use Rattle.loader.specs.Reply.{answered, entered, polled, pollTime, getstatusOf, getstateOf, queryOf}
-use Rattle.loader.specs.Step.{startable, freshStart, startOutcome, served, stepOf}
+use Rattle.loader.specs.Step.{startable, freshStart, startOutcome, served, stepOf, settled}
 use Rattle.demands.specs.Calls.{heard, Call, Site, begun, called, next, after}
 use Rattle.demands.specs.Asked.{Prepared}
 use Rattle.demands.proofs.Asked.{prepared-from}
@@ -30,7 +30,6 @@ use Rattle.demands.specs.Tied.{Case, Meets, Expected, All, none, _and_, 
 use Rattle.demands.specs.Tied.{eraseAll, wiped, marred, progOne, progZero, seven, close, case, deskCases}
 use Rattle.demands.proofs.Bytes.{erased-length, erased-part, not-erased, spliced-none, spliced-byte}
 use Rattle.demands.proofs.TwoLaws.{sound-served, sound-stalled, next-from}
-use Rattle.demands.proofs.Left.{wroteOf}
 
 -- no call, and one call more
 ended : (at : Site) → after stepOf at [] ≡ at
@@ -63,7 +62,7 @@ module _ (p q : ℕ) (f buffer : List ℕ) (sized : length f ≡ startOf 64) (ro
 
     serves :
         allowedOf (requestOf (c .setup)) (wLength (c .setup)) (s .phase .state .0) ≡ true → called stepOf (site s g) c
-        ≡ served (requestOf (c .setup)) s g (wLength (c .setup)) (c .bytes) (c .reply)
+        ≡ settled (served (requestOf (c .setup)) s g (wLength (c .setup)) (c .bytes) (c .reply)) g (c .bytes)
     serves = sound-served (site s g) c sound
 
     stalls :
@@ -96,18 +95,18 @@ module _ (p q : ℕ) (f buffer : List ℕ) (sized : length f ≡ startOf 64) (ro
   module _ (sums : Sums) where
     after-erase : next stepOf (site (held 2 0 2 0 0 sums) f) (eraseAll buffer) ≡ site (held 3 0 2 0 0 (refreshed sums w 16 64 16 64)) w
     unfolding fitOf streamLength freshOf wholeUpload appEnd dataAsked setupOf formOf allowedOf served dnloadOf commandOf wellFormed
-        carriedOut eraseOf movedTo
+        byNumber settled carriedOut eraseOf wipeDone sumsWiped movedTo
     after-erase = next-from _ _ _ (serves (held 2 0 2 0 0 sums) f (eraseAll buffer) refl sized refl refl refl refl refl)
 
     after-seven : next stepOf (site (held 2 0 2 0 0 sums) f) (seven buffer) ≡ site (held 10 0x0B 2 0 0 sums) f
-    unfolding fitOf streamLength freshOf wholeUpload appEnd dataAsked setupOf formOf allowedOf served dnloadOf commandOf wellFormed
+    unfolding fitOf streamLength freshOf wholeUpload appEnd dataAsked setupOf formOf allowedOf served settled carriedOut dnloadOf commandOf wellFormed
         faultOf movedTo
     after-seven = next-from _ _ _ (serves (held 2 0 2 0 0 sums) f (seven buffer) refl sized refl refl refl refl refl)
 
     after-poll :
         (g : List ℕ) → length g ≡ startOf 64 → next stepOf (site (held 3 0 2 0 0 sums) g) (getStatus buffer)
         ≡ site (held 2 0 2 0 0 sums) g
-    unfolding fitOf streamLength freshOf wholeUpload appEnd dataAsked setupOf formOf allowedOf served getstatusOf answered polled
+    unfolding fitOf streamLength freshOf wholeUpload appEnd dataAsked setupOf formOf allowedOf served settled carriedOut getstatusOf answered polled
         entered pollTime
     after-poll g long = next-from _ _ _ (serves (held 3 0 2 0 0 sums) g (getStatus buffer) refl long refl refl refl refl refl)
 
@@ -117,7 +116,7 @@ module _ (p q : ℕ) (f buffer : List ℕ) (sized : length f ≡ startOf 64) (ro
 
     after-one : next stepOf (site (held 2 0 2 0 0 sums) w) (progOne buffer) ≡ site (held 3 0 5 16384 1 one-sums) w
     unfolding one-sums fitOf streamLength freshOf wholeUpload appEnd dataAsked setupOf formOf allowedOf served dnloadOf commandOf
-        wellFormed carriedOut progOf wroteOf movedTo
+        wellFormed byNumber settled carriedOut progOf wroteOf bytesDone movedTo
     after-one =
         next-from _ _ (leaves (outcome Answer.Taken 0 (held 3 0 5 16384 1 one-sums)) w buffer)
         (serves (held 2 0 2 0 0 sums) w (progOne buffer) refl w-long refl refl refl refl refl
@@ -128,28 +127,28 @@ module _ (p q : ℕ) (f buffer : List ℕ) (sized : length f ≡ startOf 64) (ro
 
     after-zero : next stepOf (site (held 2 0 2 0 0 sums) w) (progZero buffer) ≡ site (held 3 0 5 16385 0 zero-sums) z
     unfolding zero-sums fitOf streamLength freshOf wholeUpload appEnd dataAsked setupOf formOf allowedOf served dnloadOf commandOf
-        wellFormed carriedOut progOf wroteOf movedTo
+        wellFormed byNumber settled carriedOut progOf wroteOf bytesDone movedTo
     after-zero =
         next-from _ _ (leaves (outcome Answer.Taken 0 (held 3 0 5 16385 0 zero-sums)) z buffer)
         (serves (held 2 0 2 0 0 sums) w (progZero buffer) refl w-long refl refl refl refl refl
         ∙ rw (w-erased 16 1 (omega arith) (omega arith)))
 
     one-polled : next stepOf (site (held 3 0 5 16384 1 sums) w) (getStatus buffer) ≡ site (held 5 0 2 16384 1 sums) w
-    unfolding fitOf streamLength freshOf wholeUpload appEnd dataAsked setupOf formOf allowedOf served getstatusOf answered polled
+    unfolding fitOf streamLength freshOf wholeUpload appEnd dataAsked setupOf formOf allowedOf served settled carriedOut getstatusOf answered polled
         entered pollTime
     one-polled = next-from _ _ _ (serves (held 3 0 5 16384 1 sums) w (getStatus buffer) refl w-long refl refl refl refl refl)
 
     zero-polled : next stepOf (site (held 3 0 5 16385 0 sums) z) (getStatus buffer) ≡ site (held 5 0 2 16385 0 sums) z
-    unfolding fitOf streamLength freshOf wholeUpload appEnd dataAsked setupOf formOf allowedOf served getstatusOf answered polled
+    unfolding fitOf streamLength freshOf wholeUpload appEnd dataAsked setupOf formOf allowedOf served settled carriedOut getstatusOf answered polled
         entered pollTime
     zero-polled = next-from _ _ _ (serves (held 3 0 5 16385 0 sums) z (getStatus buffer) refl z-long refl refl refl refl refl)
 
     zero-closed : next stepOf (site (held 5 0 2 16385 0 sums) z) (close buffer) ≡ site (held 6 0 2 0 0 sums) z
-    unfolding fitOf streamLength freshOf wholeUpload appEnd dataAsked setupOf formOf allowedOf served dnloadOf pieceOf closedOf movedTo
+    unfolding fitOf streamLength freshOf wholeUpload appEnd dataAsked setupOf formOf allowedOf served settled carriedOut dnloadOf pieceOf closedOf movedTo
     zero-closed = next-from _ _ _ (serves (held 5 0 2 16385 0 sums) z (close buffer) refl z-long refl refl refl refl refl)
 
     closed-polled : next stepOf (site (held 6 0 2 0 0 sums) z) (getStatus buffer) ≡ site (held 2 0 2 0 0 sums) z
-    unfolding fitOf streamLength freshOf wholeUpload appEnd dataAsked setupOf formOf allowedOf served getstatusOf answered polled
+    unfolding fitOf streamLength freshOf wholeUpload appEnd dataAsked setupOf formOf allowedOf served settled carriedOut getstatusOf answered polled
         entered pollTime
     closed-polled = next-from _ _ _ (serves (held 6 0 2 0 0 sums) z (getStatus buffer) refl z-long refl refl refl refl refl)
 
@@ -221,7 +220,7 @@ module _ (p q : ℕ) (f buffer : List ℕ) (sized : length f ≡ startOf 64) (ro
   -- all that each asks and expects is computed where it stands
   desk : All (Expected stepOf) (deskCases startOutcome p q f buffer)
   unfolding fitOf streamLength freshOf wholeUpload appEnd dataAsked setupOf formOf allowedOf served stallOf faultOf movedTo answered
-      getstateOf queryOf getstatusOf polled entered pollTime dnloadOf commandOf wellFormed carriedOut eraseOf progOf wroteOf
+      getstateOf queryOf getstatusOf polled entered pollTime dnloadOf commandOf wellFormed byNumber settled carriedOut eraseOf wipeDone sumsWiped progOf wroteOf bytesDone
       pieceOf closedOf
   desk =
       example 0 _ _ at-start (serves _ f _ refl sized refl refl refl refl refl) refl refl refl refl refl refl

@@ -1,5 +1,5 @@
 -- Which definition serves a DNLOAD: a command by its number, what is no command, or a piece of data. Assumes nothing.
-use Prim.Native.Nat.{ℕ, _+_, _≤_}
+use Prim.Native.Nat.{ℕ, _^_, _≤_, _<_}
 use mathlib.Core.Bool.{Bool, true, false, _&&_, _||_}
 use mathlib.Core.Logic.{_⊎_, inl, inr}
 use mathlib.Core.Path.{_≡_, refl, _∙_}
@@ -11,27 +11,30 @@ use Rattle.flash.specs.Flash.{startOf}
 use Rattle.session.specs.Codes.{vendor}
 use Rattle.session.specs.Session.{appEnd}
 use Rattle.session.specs.Rules.{inApplication}
-use Rattle.session.proofs.Laws.{inside-facts}
+use Rattle.session.proofs.Laws.{inside-facts, facts-inside, fit-near}
 use Rattle.request.specs.declared.Request.{Request}
 use Rattle.moves.specs.Answers.{leaves}
 use Rattle.moves.specs.Moves.{faultOf}
-use Rattle.command.specs.Download.{wellFormed, carriedOut, commandOf, pieceOf, dnloadOf}
-use Rattle.loader.specs.Step.{served, withReply, stepOf}
+use Rattle.jobs.specs.Job.{carriedOut}
+use Rattle.command.specs.Download.{wellFormed, byNumber, commandOf, pieceOf, dnloadOf}
+use Rattle.loader.specs.Step.{served, settled, stepOf}
 use Rattle.demands.specs.Calls.{Call, Site, called}
-use Rattle.demands.specs.Asked.{Asks}
+use Rattle.demands.specs.Asked.{Prepared, Asks}
 use Rattle.demands.specs.TwoCommands.{Commanded, Legal, NoCommand}
 use Rattle.demands.specs.TwoCommands.NoCommand.{short, unknown, extra}
+use Rattle.demands.proofs.Left.{finished}
 use Rattle.demands.proofs.TwoForms.{asks-served, asks-brings}
 
+-- an application's end has a 32-bit address
+pub legal-near : (at : Site) (c : Call) → Prepared at c → startOf (appEnd (at .session .board)) < 2 ^ 32
+legal-near at c k = fit-near (at .session) (k .rules)
+
 -- a range is in the application exactly if it is legal
-pub legal-in : (at : Site) (block len : ℕ) → Legal at block len → inApplication (at .session .board) block len ≡ true
-legal-in at block len k =
-    let b = at .session .board in
-    rw (
-      lt-ltb 0 len (k .some),
-      le-leb (b .a .0) block (k .from),
-      le-leb (startOf block + len) (startOf (appEnd b)) (k .to),
-    )
+pub legal-in :
+    (at : Site) (block len : ℕ) → startOf (appEnd (at .session .board)) < 2 ^ 32 → Legal at block len
+    → inApplication (at .session .board) block len ≡ true
+legal-in at block len near k =
+    facts-inside (at .session .board) block len near (record { some = k .some; from = k .from; to = k .to })
 
 in-legal : (at : Site) (block len : ℕ) → inApplication (at .session .board) block len ≡ true → Legal at block len
 in-legal at block len e =
@@ -48,7 +51,7 @@ illegal-out at block len none = go (inApplication (at .session .board) block len
 -- a piece of data, or the close
 pub piece-leaves :
     (at : Site) (c : Call) (n : ℕ) → Asks at c Request.Dnload n → at .session .phase .state .0 ≡ 5
-    → called stepOf at c ≡ withReply (pieceOf (at .session) (at .flash) (c .bytes)) (c .reply)
+    → called stepOf at c ≡ finished (pieceOf (at .session) (length (c .bytes))) (at .flash) (c .bytes) (c .reply)
 unfolding served dnloadOf
 piece-leaves at c n k e = asks-served at c Request.Dnload n k (inr e) ∙ rw e
 
@@ -72,7 +75,7 @@ third-false false u v = refl
 
 -- a command
 module _ (at : Site) (c : Call) (code n : ℕ) (k : Commanded at c code n) where
-  commanded : called stepOf at c ≡ withReply (commandOf (at .session) (at .flash) (c .bytes)) (c .reply)
+  commanded : called stepOf at c ≡ finished (commandOf (at .session) (at .flash) (c .bytes)) (at .flash) (c .bytes) (c .reply)
   unfolding served dnloadOf
   commanded = asks-served at c Request.Dnload n (k .asks) (inl (k .idle, k .some)) ∙ rw (k .idle)
 
@@ -85,7 +88,7 @@ module _ (at : Site) (c : Call) (code n : ℕ) (k : Commanded at c code n) where
 
   pub command-leaves :
       8 ≤ n → 1 ≤ code → code ≤ 7 → (code ≡ 1) ⊎ (n ≡ 8)
-      → called stepOf at c ≡ withReply (carriedOut code (at .session) (at .flash) (c .bytes)) (c .reply)
+      → called stepOf at c ≡ finished (byNumber code (at .session) (at .flash) (c .bytes)) (at .flash) (c .bytes) (c .reply)
   unfolding commandOf
   command-leaves long low high alone = commanded ∙ rw (well-formed long low high alone, k .command)
 
@@ -100,5 +103,5 @@ module _ (at : Site) (c : Call) (code n : ℕ) (k : Commanded at c code n) where
       (last-false (leb 8 n && leb 1 code && leb code 7))
 
   pub no-command-leaves : NoCommand code n → called stepOf at c ≡ leaves (faultOf (at .session) vendor) (at .flash) (c .reply)
-  unfolding commandOf
+  unfolding commandOf settled carriedOut
   no-command-leaves none = commanded ∙ rw (ill-formed none)

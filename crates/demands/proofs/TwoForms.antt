@@ -9,7 +9,7 @@ use lib.Dec.{eqb}
 use lib.ListN.{length}
 use borrow.Author.Tests.{ne-eqb, eqb-true, eqb-false, not-true, le-leb}
 use Rattle.session.specs.Codes.{knownState}
-use Rattle.session.specs.Fit.{OneOfSix}
+use Rattle.session.specs.Fit.{KnownState}
 use Rattle.session.proofs.Laws.{cases-state}
 use Rattle.session.proofs.Tests.{left-of, right-of, either}
 use Rattle.numbers.specs.Numbers.{wordAt}
@@ -18,7 +18,7 @@ use Rattle.moves.specs.Moves.{stallOf}
 use Rattle.request.specs.Request.{setupOf, hasForm, inForm, formOf, requestOf, wLength, allowedOf}
 use Rattle.request.specs.declared.Request.{Request}
 use Rattle.request.proofs.Laws.{form-right, form-facts, dnload-asked}
-use Rattle.loader.specs.Step.{served, stepOf}
+use Rattle.loader.specs.Step.{served, stepOf, settled}
 use Rattle.demands.specs.Calls.{Call, Site, called}
 use Rattle.demands.specs.Asked.{stateOf, Prepared, Says, Form, Allowed, Asks, NoRequest}
 use Rattle.demands.specs.Asked.Form.{dnload, upload, getstatus, clrstatus, getstate, abort, query}
@@ -90,7 +90,7 @@ module _ (setup : List ℕ) (eight : length setup ≡ 8) where
   request-form r e some = in-form r (rw e at (form-right (setupOf setup))) some
 
 -- the states that the table's last column names
-pub allowed-told : (r : Request) (n state : ℕ) → OneOfSix state → Allowed r n state → allowedOf r n state ≡ true
+pub allowed-told : (r : Request) (n state : ℕ) → KnownState state → Allowed r n state → allowedOf r n state ≡ true
 unfolding allowedOf
 allowed-told Request.Dnload n state k (inl a) = rw (a .0, ne-eqb n 0 (λ e. omega (arith, e, a .1)))
 allowed-told Request.Dnload n state k (inr a) = rw a
@@ -125,14 +125,14 @@ told-allowed Request.Nothing n state e = absurd (false≢true e)
 -- what an allowed request in form leaves
 pub asks-served :
     (at : Site) (c : Call) (r : Request) (n : ℕ) → Asks at c r n → Allowed r n (at .session .phase .state .0)
-    → called stepOf at c ≡ served r (at .session) (at .flash) n (c .bytes) (c .reply)
+    → called stepOf at c ≡ settled (served r (at .session) (at .flash) n (c .bytes) (c .reply)) (at .flash) (c .bytes)
 asks-served at c r n k a =
     let s = at .session in
     let is = form-request (c .setup) (k .prepared .setup-bytes) r n (k .form) in
     let long = form-length (c .setup) (k .prepared .setup-bytes) r n (k .form) in
     let told = allowed-told r n (s .phase .state .0) (k .prepared .rules .state) a in
     sound-served at c (k .prepared) (ap₂ (λ (x : Request) (m : ℕ). allowedOf x m (s .phase .state .0)) is long ∙ told)
-    ∙ ap₂ (λ (x : Request) (m : ℕ). served x s (at .flash) m (c .bytes) (c .reply)) is long
+    ∙ ap₂ (λ (x : Request) (m : ℕ). settled (served x s (at .flash) m (c .bytes) (c .reply)) (at .flash) (c .bytes)) is long
 
 -- what no allowed request in form is leaves
 pub asks-stalled :

@@ -3,7 +3,7 @@ use Prim.Native.Nat.{ℕ, _+_, _-_, _≤_}
 use mathlib.Core.Bool.{true}
 use mathlib.Core.List.{List, []}
 use mathlib.Core.Logic.{inl, inr}
-use mathlib.Core.Path.{_≡_, refl, ap, _∙_}
+use mathlib.Core.Path.{_≡_, refl, ap, _∙_, sym}
 use native.Mathlib.Omega.{arith}
 use lib.ListN.{length, getD, drop, length-drop}
 use borrow.Author.Tests.{ne-eqb, le-leb}
@@ -20,17 +20,17 @@ use Rattle.request.specs.declared.Request.{Request}
 use Rattle.moves.specs.declared.Answer.{Answer}
 use Rattle.moves.specs.Answers.{leaves}
 use Rattle.moves.specs.Moves.{movedTo, toSync, takenOf}
-use Rattle.jobs.specs.Job.{sumsAfter}
-use Rattle.command.specs.Download.{progOf, eraseOf, carriedOut, pieceOf}
-use Rattle.loader.specs.Step.{withReply, stepOf}
+use Rattle.jobs.specs.Job.{sumsAfter, carriedOut, wipeDone, sumsWiped}
+use Rattle.command.specs.Download.{progOf, eraseOf, byNumber, pieceOf}
+use Rattle.loader.specs.Step.{withReply, stepOf, settled}
 use Rattle.demands.specs.Calls.{Call, Site, called}
 use Rattle.demands.specs.Asked.{Prepared, Asks}
 use Rattle.demands.specs.TwoCommands.{Commanded, Named, Counted, Legal, Blank, EraseDone, EraseWorks, BytesDone, ProgramWorks}
 use Rattle.demands.proofs.Bytes.{spliced-byte, erased-length, erased-byte, erased-other, bytes-erased}
 use Rattle.demands.proofs.TwoForms.{asks-brings}
 use Rattle.demands.proofs.TwoOutcomes.{so-answers, so-session, so-flash, so-enters, at-start}
-use Rattle.demands.proofs.TwoDownloads.{legal-in, command-leaves, piece-leaves}
-use Rattle.demands.proofs.Left.{wroteOf}
+use Rattle.demands.proofs.TwoDownloads.{legal-in, command-leaves, piece-leaves, legal-near}
+use Rattle.demands.proofs.Left.{storedOf, bytes-finished}
 
 -- a legal range lies in flash
 pub legal-fits : (at : Site) (c : Call) (block len : ℕ) → Prepared at c → Legal at block len → startOf block + len ≤ length (at .flash)
@@ -47,10 +47,10 @@ module _
   erase-leaves :
       called stepOf at c
       ≡ leaves (takenOf (toSync (withSums (at .session) erase-sums) idle noDownload)) (erased (at .flash) block count) (c .reply)
-  unfolding carriedOut eraseOf erase-sums
+  unfolding byNumber eraseOf erase-sums settled carriedOut wipeDone sumsWiped movedTo
   erase-leaves =
       command-leaves at c 4 8 k (omega arith) (omega arith) (omega arith) (inr refl)
-      ∙ rw (range .block-is, range .count-is, legal-in at block (startOf count) legal)
+      ∙ rw (range .block-is, range .count-is, legal-in at block (startOf count) (legal-near at c (k .asks .prepared)) legal)
 
   erase-done : EraseDone stepOf at c block count
   unfolding movedTo
@@ -92,9 +92,9 @@ module _
       (downOf (place + length bytes) (len - length bytes))
 
   write-done :
-      called stepOf at c ≡ withReply (wroteOf (at .session) (at .flash) place bytes (len - length bytes)) (c .reply)
+      called stepOf at c ≡ withReply (storedOf (at .session) (at .flash) place bytes (len - length bytes)) (c .reply)
       → BytesDone stepOf at c place len bytes
-  unfolding wroteOf written movedTo
+  unfolding storedOf written movedTo
   write-done e =
       let g = spliced (at .flash) place bytes in
       let session = so-session at c Answer.Taken [] written g e in
@@ -119,19 +119,24 @@ module _
   first-few = omega (arith, length-drop 8 (c .bytes), asks-brings at c n (k .asks))
 
   prog-done : BytesDone stepOf at c (startOf block) len (drop 8 (c .bytes))
-  unfolding carriedOut progOf
+  unfolding byNumber progOf
   prog-done =
       let fits = legal-fits at c block len (k .asks .prepared) legal in
+      let long-data = length-drop 8 (c .bytes) in
       write-done at c (startOf block) len (drop 8 (c .bytes)) (k .asks .prepared) (λ e. omega (arith, e, k .idle))
       (omega (arith, first-few, fits))
       (command-leaves at c 1 n k long (omega arith) (omega arith) (inl refl)
       ∙ rw (
         range .block-is,
         range .len-is,
-        legal-in at block len legal,
-        le-leb (length (drop 8 (c .bytes))) len first-few,
+        legal-in at block len (legal-near at c (k .asks .prepared)) legal,
+        le-leb (length (c .bytes) - 8) len (omega (arith, first-few, long-data)),
         bytes-erased (at .flash) block len fits blank,
-      ))
+      )
+      (bytes-finished (at .session) (at .flash) (c .bytes) (c .reply) (startOf block) 8 (length (c .bytes) - 8)
+      (len - (length (c .bytes) - 8)) (sym long-data)
+      ∙ ap (λ (m : ℕ). withReply (storedOf (at .session) (at .flash) (startOf block) (drop 8 (c .bytes)) (len - m)) (c .reply))
+      (sym long-data)))
 
 module _
     (at : Site) (c : Call) (n : ℕ) (k : Asks at c Request.Dnload n) (loading : at .session .phase .state .0 ≡ 5) (some : 1 ≤ n)
@@ -139,7 +144,7 @@ module _
   pub written-leaves :
       called stepOf at c
       ≡ withReply
-      (wroteOf (at .session) (at .flash) (at .session .down .place .0) (c .bytes) (at .session .down .left - length (c .bytes)))
+      (storedOf (at .session) (at .flash) (at .session .down .place .0) (c .bytes) (at .session .down .left - length (c .bytes)))
       (c .reply)
   unfolding pieceOf
   written-leaves =
@@ -149,13 +154,14 @@ module _
         ne-eqb (length (c .bytes)) 0 (λ e. omega (arith, e, some, is)),
         le-leb (length (c .bytes)) (at .session .down .left) (omega (arith, few, is)),
       )
+      (bytes-finished (at .session) (at .flash) (c .bytes) (c .reply) (at .session .down .place .0) 0 (length (c .bytes))
+      (at .session .down .left - length (c .bytes)) refl)
 
   -- a running download lies in flash
   piece-fits : at .session .down .place .0 + length (c .bytes) ≤ length (at .flash)
   piece-fits =
       let s = at .session in
-      let runs : running (s .phase) ≡ true = rw loading in
-      omega (arith, k .prepared .rules .left-to runs, end-in-flash (s .board), few, asks-brings at c n k, k .prepared .flash-length)
+      omega (arith, k .prepared .rules .left-to (inl loading), end-in-flash (s .board), few, asks-brings at c n k, k .prepared .flash-length)
 
   piece-done : BytesDone stepOf at c (at .session .down .place .0) (at .session .down .left) (c .bytes)
   piece-done =

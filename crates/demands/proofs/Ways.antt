@@ -1,41 +1,40 @@
 -- The ways through a call: what holds of each of them holds of the call. Every demand goes by these cases, so that the tests of the
 -- step are taken apart once. Assumes nothing.
-use Prim.Native.Nat.{ℕ, _+_, _-_, _≤_}
-use mathlib.Core.Bool.{Bool, true, false, cond, _&&_, _||_, false≢true}
+use Prim.Native.Nat.{ℕ, _-_, _≤_}
+use mathlib.Core.Bool.{Bool, true, false, _&&_, _||_, false≢true}
 use mathlib.Core.List.{List}
 use mathlib.Core.Logic.{⊎-elim}
-use mathlib.Core.Path.{_≡_, refl}
+use mathlib.Core.Path.{_≡_, refl, sym, subst, subst⁻¹, _∙_}
 use native.Mathlib.Omega.{arith}
 use borrow.Author.Tests.{eqb-true, eqb-false, ne-eqb, leb-true}
 use lib.Dec.{eqb, leb}
-use lib.ListN.{length, getD, drop}
-use Rattle.flash.specs.Flash.{startOf, erased}
-use Rattle.sums.specs.Sum.{refreshed}
+use lib.ListN.{length, getD, drop, length-drop}
+use Rattle.flash.specs.Flash.{startOf}
+use Rattle.numbers.specs.Numbers.{wordAt, longAt}
 use Rattle.session.specs.Codes.{idle, downloadIdle, manifestSync, ok, checkErased, address, notDone, vendor}
-use Rattle.session.specs.Session.{appEnd, phaseOf, noDownload, upOf, flashStream, withUp, withSums}
+use Rattle.session.specs.Session.{phaseOf, noDownload, upOf, flashStream, withUp}
 use Rattle.session.specs.Rules.{inApplication}
 use Rattle.session.specs.declared.Session.{Session}
 use Rattle.session.proofs.Tests.{left-of, right-of, unless}
-use Rattle.numbers.specs.Numbers.{wordAt, longAt}
+use Rattle.request.specs.Commands.{prog, read, check, erase, info, bin, reset}
 use Rattle.request.specs.Request.{wLength, requestOf, allowedOf}
 use Rattle.request.specs.declared.Request.{Request}
-use Rattle.request.specs.Commands.{prog, read, check, erase, info, bin, reset}
-use Rattle.moves.specs.Answers.{Leaves, Done, done, leaves}
+use Rattle.moves.specs.declared.Outcome.{Outcome}
+use Rattle.moves.specs.Answers.{Leaves, leaves}
 use Rattle.moves.specs.Moves.{movedTo, toIdle, toSync, takenOf, stallOf, unfitOf, faultOf, resetOf}
+use Rattle.jobs.specs.declared.Plan.{Plan}
+use Rattle.jobs.specs.declared.Job.{Job}
+use Rattle.jobs.specs.Job.{planOf, carriedOut}
 use Rattle.command.specs.Ready.{Ready}
-use Rattle.command.specs.Download.{allErased, progOf, readOf, checkOf}
-use Rattle.command.specs.Download.{eraseOf, infoOf, binOf, wellFormed, carriedOut, commandOf, closedOf, pieceOf, dnloadOf}
+use Rattle.command.specs.Download.{allErased, progOf, readOf, checkOf, eraseOf, infoOf, binOf, wellFormed, byNumber, commandOf}
+use Rattle.command.specs.Download.{closedOf, pieceOf, dnloadOf}
+use Rattle.command.proofs.Laws.{pick}
 use Rattle.loader.specs.Reply.{getstatusOf, getstateOf, queryOf}
 use Rattle.loader.specs.Upload.{uploadOf}
-use Rattle.loader.specs.Step.{ready, withReply, served, stepOf}
+use Rattle.loader.specs.Step.{ready, Decided, withReply, served, decidedOf, settled, stepOf}
 use Rattle.loader.proofs.Laws.{ready-fit, allowed-loading}
 use Rattle.demands.specs.One.{FaultStatus, not-erased, out-of-range, bytes-missing, bad-command}
-use Rattle.demands.proofs.Left.{wroteOf, withFlash}
-
--- what holds of both values of a test's pick holds of the pick
-pub pick : {A : Type 0} (P : A → Type 0) (t : Bool) (x y : A) → (t ≡ true → P x) → (t ≡ false → P y) → P (cond t x y)
-pick P true x y h k = h refl
-pick P false x y h k = k refl
+use Rattle.demands.proofs.Left.{finished, withFlash, storedOf, wipedOf, bytes-finished, wipe-finished}
 
 -- a DNLOAD that is served in a state
 pub record Loads (s : Session) (f setup : List ℕ) (state : ℕ) : Type 0 where
@@ -67,18 +66,6 @@ module _ (d : List ℕ) (g : wellFormed d ≡ true) where
       → (getD d 0 0 ≡ info → ⊥) → (getD d 0 0 ≡ bin → ⊥) → getD d 0 0 ≡ reset
   last-reset n1 n2 n3 n4 n5 n6 = let k = known-command in omega arith
 
--- what an erase of blocks leaves
-abbrev pub wipedOf : Session → List ℕ → ℕ → ℕ → Done
-wipedOf s f block count =
-    done
-    (takenOf
-    (toSync
-    (withSums s
-    (refreshed (s .sums) (erased f block count) (s .board .a .0) (appEnd (s .board)) block (block + count)))
-    idle
-    noDownload))
-    (erased f block count)
-
 -- what P must hold of: each way's outcome, with what was found on the way
 pub record Ways (s : Session) (f setup d reply : List ℕ) (P : Leaves → Type 0) : Type 0 where
   pub unfits : ready s (length f) setup (length d) (length reply) ≡ false → P (leaves (unfitOf s) f reply)
@@ -91,10 +78,10 @@ pub record Ways (s : Session) (f setup d reply : List ℕ) (P : Leaves → Type 
   pub programs :
       Loads s f setup idle → getD d 0 0 ≡ prog → inApplication (s .board) (wordAt d 2) (longAt d 4) ≡ true
       → length (drop 8 d) ≤ longAt d 4
-      → P (withReply (wroteOf s f (startOf (wordAt d 2)) (drop 8 d) (longAt d 4 - length (drop 8 d))) reply)
+      → P (withReply (storedOf s f (startOf (wordAt d 2)) (drop 8 d) (longAt d 4 - length (drop 8 d))) reply)
   pub pieces :
       Loads s f setup downloadIdle → length d ≤ s .down .left
-      → P (withReply (wroteOf s f (s .down .place .0) d (s .down .left - length d)) reply)
+      → P (withReply (storedOf s f (s .down .place .0) d (s .down .left - length d)) reply)
   pub closes :
       Loads s f setup downloadIdle
       → P (leaves (takenOf (movedTo s (phaseOf manifestSync ok idle) noDownload)) f reply)
@@ -119,95 +106,118 @@ pub record Ways (s : Session) (f setup d reply : List ℕ) (P : Leaves → Type 
   pub idles : Ready s f → P (leaves (takenOf (toIdle s)) f reply)
 
 module _ (s : Session) (f setup d reply : List ℕ) (P : Leaves → Type 0) (w : Ways s f setup d reply P) where
-  AfterDone : Done → Type 0
-  AfterDone x = P (withReply x reply)
+  -- what is to be shown of a plan: it holds of what the plan leaves
+  Finishes : Plan → Type 0
+  Finishes p = P (finished p f d reply)
 
-  prog-ways : Loads s f setup idle → getD d 0 0 ≡ prog → AfterDone (progOf s f (wordAt d 2) (longAt d 4) (drop 8 d))
-  unfolding AfterDone progOf
+  -- and of an outcome that leaves flash alone
+  Only : Outcome → Type 0
+  Only o = P (leaves o f reply)
+
+  faulty : Loads s f setup idle → (status : ℕ) → FaultStatus status → Finishes (planOf (faultOf s status) Job.Nothing)
+  unfolding Finishes settled carriedOut
+  faulty l = w .faults (l .fit) (l .asked)
+
+  prog-ways :
+      Loads s f setup idle → getD d 0 0 ≡ prog → Finishes (progOf s f (wordAt d 2) (longAt d 4) (length d - 8))
+  unfolding progOf Finishes
   prog-ways l c =
-      pick AfterDone (inApplication (s .board) (wordAt d 2) (longAt d 4)) _ _
+      let n = length d - 8 in
+      pick Finishes (inApplication (s .board) (wordAt d 2) (longAt d 4)) _ _
       (λ i.
-      pick AfterDone (leb (length (drop 8 d)) (longAt d 4)) _ _
-      (λ n.
-      pick AfterDone (allErased f (wordAt d 2) (longAt d 4)) _ _ (λ b. w .programs l c i (leb-true _ _ n))
-      (λ b. w .faults (l .fit) (l .asked) checkErased (not-erased refl)))
-      (λ n. w .faults (l .fit) (l .asked) address (out-of-range refl)))
-      (λ i. w .faults (l .fit) (l .asked) address (out-of-range refl))
+      pick Finishes (leb n (longAt d 4)) _ _
+      (λ e.
+      let few : n ≤ longAt d 4 = leb-true _ _ e in
+      let long = length-drop 8 d in
+      pick Finishes (allErased f (wordAt d 2) (longAt d 4)) _ _
+      (λ b.
+      subst⁻¹ P (bytes-finished s f d reply (startOf (wordAt d 2)) 8 n (longAt d 4 - n) (sym long))
+      (subst (λ (m : ℕ). P (withReply (storedOf s f (startOf (wordAt d 2)) (drop 8 d) (longAt d 4 - m)) reply)) long
+      (w .programs l c i (omega (arith, few, long)))))
+      (λ b. faulty l checkErased (not-erased refl)))
+      (λ n. faulty l address (out-of-range refl)))
+      (λ i. faulty l address (out-of-range refl))
 
-  read-ways : Loads s f setup idle → P (leaves (readOf s (wordAt d 2) (longAt d 4)) f reply)
-  unfolding readOf
+  read-ways : Loads s f setup idle → Only (readOf s (wordAt d 2) (longAt d 4))
+  unfolding readOf Only
   read-ways l =
-      pick (λ o. P (leaves o f reply)) (inApplication (s .board) (wordAt d 2) (longAt d 4)) _ _ (λ i. w .reads l i)
+      pick Only (inApplication (s .board) (wordAt d 2) (longAt d 4)) _ _ (λ i. w .reads l i)
       (λ i. w .faults (l .fit) (l .asked) address (out-of-range refl))
 
-  check-ways : Loads s f setup idle → P (leaves (checkOf s f (wordAt d 2) (longAt d 4)) f reply)
-  unfolding checkOf
+  check-ways : Loads s f setup idle → Only (checkOf s f (wordAt d 2) (longAt d 4))
+  unfolding checkOf Only
   check-ways l =
-      pick (λ o. P (leaves o f reply)) (inApplication (s .board) (wordAt d 2) (longAt d 4)) _ _
+      pick Only (inApplication (s .board) (wordAt d 2) (longAt d 4)) _ _
       (λ i.
-      pick (λ o. P (leaves o f reply)) (allErased f (wordAt d 2) (longAt d 4)) _ _ (λ b. w .checks l)
+      pick Only (allErased f (wordAt d 2) (longAt d 4)) _ _ (λ b. w .checks l)
       (λ b. w .faults (l .fit) (l .asked) checkErased (not-erased refl)))
       (λ i. w .faults (l .fit) (l .asked) address (out-of-range refl))
 
-  erase-ways : Loads s f setup idle → getD d 0 0 ≡ erase → AfterDone (eraseOf s f (wordAt d 2) (wordAt d 4))
-  unfolding AfterDone eraseOf
+  erase-ways : Loads s f setup idle → getD d 0 0 ≡ erase → Finishes (eraseOf s (wordAt d 2) (wordAt d 4))
+  unfolding eraseOf Finishes
   erase-ways l c =
-      pick AfterDone (inApplication (s .board) (wordAt d 2) (startOf (wordAt d 4))) _ _ (λ i. w .erases l c i)
-      (λ i. w .faults (l .fit) (l .asked) address (out-of-range refl))
+      pick Finishes (inApplication (s .board) (wordAt d 2) (startOf (wordAt d 4))) _ _
+      (λ i. subst⁻¹ P (wipe-finished s f d reply (wordAt d 2) (wordAt d 4)) (w .erases l c i))
+      (λ i. faulty l address (out-of-range refl))
 
-  carried-ways : Loads s f setup idle → wellFormed d ≡ true → AfterDone (carriedOut (getD d 0 0) s f d)
-  unfolding AfterDone carriedOut
+  carried-ways : Loads s f setup idle → wellFormed d ≡ true → Finishes (byNumber (getD d 0 0) s f d)
+  unfolding Finishes Only byNumber settled carriedOut
   carried-ways l g =
-      pick AfterDone (eqb (getD d 0 0) prog) _ _ (λ e. prog-ways l (eqb-true _ _ e))
+      pick Finishes (eqb (getD d 0 0) prog) _ _ (λ e. prog-ways l (eqb-true _ _ e))
       (λ n1.
-      pick AfterDone (eqb (getD d 0 0) read) _ _ (λ _. read-ways l)
+      pick Finishes (eqb (getD d 0 0) read) _ _ (λ _. read-ways l)
       (λ n2.
-      pick AfterDone (eqb (getD d 0 0) check) _ _ (λ _. check-ways l)
+      pick Finishes (eqb (getD d 0 0) check) _ _ (λ _. check-ways l)
       (λ n3.
-      pick AfterDone (eqb (getD d 0 0) erase) _ _ (λ e. erase-ways l (eqb-true _ _ e))
+      pick Finishes (eqb (getD d 0 0) erase) _ _ (λ e. erase-ways l (eqb-true _ _ e))
       (λ n4.
-      pick AfterDone (eqb (getD d 0 0) info) _ _ (λ _. w .informs l)
+      pick Finishes (eqb (getD d 0 0) info) _ _ (λ _. w .informs l)
       (λ n5.
-      pick AfterDone (eqb (getD d 0 0) bin) _ _ (λ _. w .bins l)
+      pick Finishes (eqb (getD d 0 0) bin) _ _ (λ _. w .bins l)
       (λ n6.
       w .resets l (others-eight d g (eqb-false _ _ n1))
       (last-reset d g (eqb-false _ _ n1) (eqb-false _ _ n2) (eqb-false _ _ n3) (eqb-false _ _ n4) (eqb-false _ _ n5)
       (eqb-false _ _ n6))))))))
 
-  command-ways : Loads s f setup idle → AfterDone (commandOf s f d)
-  unfolding AfterDone commandOf
-  command-ways l =
-      pick AfterDone (wellFormed d) _ _ (λ g. carried-ways l g) (λ _. w .faults (l .fit) (l .asked) vendor (bad-command refl))
+  command-ways : Loads s f setup idle → Finishes (commandOf s f d)
+  unfolding commandOf
+  command-ways l = pick Finishes (wellFormed d) _ _ (λ g. carried-ways l g) (λ _. faulty l vendor (bad-command refl))
 
-  close-ways : Loads s f setup downloadIdle → P (leaves (closedOf s) f reply)
-  unfolding closedOf
+  close-ways : Loads s f setup downloadIdle → Only (closedOf s)
+  unfolding closedOf Only
   close-ways l =
-      pick (λ o. P (leaves o f reply)) (eqb (s .down .left) 0) _ _ (λ _. w .closes l)
+      pick Only (eqb (s .down .left) 0) _ _ (λ _. w .closes l)
       (λ _. w .faults (l .fit) (l .asked) notDone (bytes-missing refl))
 
-  piece-ways : Loads s f setup downloadIdle → AfterDone (pieceOf s f d)
-  unfolding AfterDone pieceOf
+  piece-ways : Loads s f setup downloadIdle → Finishes (pieceOf s (length d))
+  unfolding Finishes Only pieceOf settled carriedOut
   piece-ways l =
-      pick AfterDone (eqb (length d) 0) _ _ (λ _. close-ways l)
+      pick Finishes (eqb (length d) 0) _ _ (λ _. close-ways l)
       (λ _.
-      pick AfterDone (leb (length d) (s .down .left)) _ _ (λ n. w .pieces l (leb-true _ _ n))
+      pick Finishes (leb (length d) (s .down .left)) _ _
+      (λ n.
+      subst⁻¹ P (bytes-finished s f d reply (s .down .place .0) 0 (length d) (s .down .left - length d) refl)
+      (w .pieces l (leb-true _ _ n)))
       (λ _. w .faults (l .fit) (l .asked) address (out-of-range refl)))
 
   dnload-ways :
       Ready s f → requestOf setup ≡ Request.Dnload
-      → allowedOf Request.Dnload (wLength setup) (s .phase .state .0) ≡ true → AfterDone (dnloadOf s f d)
-  unfolding AfterDone dnloadOf
+      → allowedOf Request.Dnload (wLength setup) (s .phase .state .0) ≡ true → Finishes (dnloadOf s f d)
+  unfolding dnloadOf
   dnload-ways r q a =
-      pick AfterDone (eqb (s .phase .state .0) idle) _ _
+      pick Finishes (eqb (s .phase .state .0) idle) _ _
       (λ e. command-ways (record { fit = r; asked = q; here = eqb-true _ _ e }))
       (λ n.
       ⊎-elim (λ e. absurd (eqb-false _ _ n e)) (λ e. piece-ways (record { fit = r; asked = q; here = e }))
       (allowed-loading s (wLength setup) a .in-two))
 
+  Settles : Decided → Type 0
+  Settles x = P (settled x f d)
+
   served-ways :
       (q : Request) → requestOf setup ≡ q → Ready s f → allowedOf q (wLength setup) (s .phase .state .0) ≡ true
-      → P (served q s f (wLength setup) d reply)
-  unfolding served AfterDone allowedOf
+      → Settles (served q s f (wLength setup) d reply)
+  unfolding served Settles Finishes settled carriedOut allowedOf
   served-ways Request.Dnload e r a = dnload-ways r e a
   served-ways Request.Upload e r a = w .uploads r e
   served-ways Request.GetStatus e r a = w .polls r e
@@ -218,11 +228,11 @@ module _ (s : Session) (f setup d reply : List ℕ) (P : Leaves → Type 0) (w :
   served-ways Request.Nothing e r a = absurd (false≢true a)
 
   pub every-way : P (stepOf s f setup d reply)
-  unfolding stepOf
+  unfolding stepOf Settles decidedOf settled carriedOut
   every-way =
-      pick P (ready s (length f) setup (length d) (length reply)) _ _
+      pick Settles (ready s (length f) setup (length d) (length reply)) _ _
       (λ r.
       let fit = ready-fit s f setup (length d) (length reply) r in
-      pick P (allowedOf (requestOf setup) (wLength setup) (s .phase .state .0)) _ _
+      pick Settles (allowedOf (requestOf setup) (wLength setup) (s .phase .state .0)) _ _
       (λ a. served-ways (requestOf setup) refl fit a) (λ n. w .stalls fit n))
       (λ r. w .unfits r)
