@@ -214,11 +214,13 @@ fn split(number: u64) -> (u32, u32) {
 /// just one in it all.
 fn some_flash(dice: &mut Dice, a: u32, b: u32) -> Vec<u8> {
     let mut flash = vec![0xA5; FLASH_ROOM];
-    if dice.below(12) == 0 {
+    // Seldom for a short application, where a search is soon over.
+    if dice.below(256) < b - a {
         let (start, end) = ((a * BLOCK) as usize, (b * BLOCK) as usize);
         flash[..start].copy_from_slice(&dice.bytes(a * BLOCK));
         flash[start..end].fill(ERASED);
-        flash[end - 1 - dice.below((b - a) * BLOCK) as usize] = 0x7F;
+        let from_end = [2 * BLOCK, (b - a) * BLOCK][dice.below(2) as usize];
+        flash[end - 1 - dice.below(from_end.min((b - a) * BLOCK)) as usize] = 0x7F;
         return flash;
     }
     let erased_in_four = [0, 2, 3, 4][dice.below(4) as usize];

@@ -310,9 +310,9 @@ fn erased_run(dice: &mut Dice, session: &Session, flash: &[u8]) -> Option<(u16, 
 }
 
 fn check_erased(dice: &mut Dice, session: &Session, flash: &[u8]) -> Vec<u8> {
-    match (dice.below(3), erased_run(dice, session, flash)) {
+    match (dice.below(4), erased_run(dice, session, flash)) {
         (0, _) => around_a_lone_byte(dice, session, flash, command::CHECK),
-        (1, _) => up_to_the_first(dice, session, flash, command::CHECK),
+        (1..=2, _) => up_to_the_first(dice, session, flash, command::CHECK),
         (_, Some((block, run))) => header(command::CHECK, block, run + dice.below(2)).to_vec(),
         _ => ranged(dice, session, command::CHECK),
     }
