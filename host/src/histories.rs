@@ -103,7 +103,7 @@ impl History {
     fn wide(&mut self, right: &Start) -> Start {
         let dice = &mut self.dice;
         let mut more = || match dice.below(4) {
-            0 => 1 << (22 + dice.below(10)),
+            0 => [1 << 22, 1 << 24, 1 << 30, 1 << 31][dice.below(4) as usize],
             1 => u32::MAX - MOST_BLOCKS as u32 - dice.below(4),
             _ => 65_536 * (1 + dice.below(65_535)),
         };
@@ -210,9 +210,19 @@ fn split(number: u64) -> (u32, u32) {
 }
 
 /// Boot blocks of anything; an application that is all erased, all data, or
-/// block by block the one or the other, with a lone byte here and there.
+/// block by block the one or the other, with a lone byte here and there, or
+/// just one in it all.
 fn some_flash(dice: &mut Dice, a: u32, b: u32) -> Vec<u8> {
     let mut flash = vec![0xA5; FLASH_ROOM];
+    // Seldom for a short application, where a search is soon over.
+    if dice.below(256) < b - a {
+        let (start, end) = ((a * BLOCK) as usize, (b * BLOCK) as usize);
+        flash[..start].copy_from_slice(&dice.bytes(a * BLOCK));
+        flash[start..end].fill(ERASED);
+        let from_end = [2 * BLOCK, (b - a) * BLOCK][dice.below(2) as usize];
+        flash[end - 1 - dice.below(from_end.min((b - a) * BLOCK)) as usize] = 0x7F;
+        return flash;
+    }
     let erased_in_four = [0, 2, 3, 4][dice.below(4) as usize];
     for block in 0..b {
         let place = (block * BLOCK) as usize;

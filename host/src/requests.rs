@@ -212,7 +212,7 @@ fn a_command(dice: &mut Dice, session: &Session, flash: &[u8]) -> Vec<u8> {
             data.extend(dice.bytes(more));
         }
         // Only BIN reads it.
-        2 => data[1] = dice.below(256) as u8,
+        2 => data[1] = [1, 2, 128, 255, dice.below(256) as u8][dice.below(5) as usize],
         _ => {}
     }
     data
@@ -227,7 +227,16 @@ fn whole_command(dice: &mut Dice, session: &Session, flash: &[u8]) -> Vec<u8> {
         14 => ranged(dice, session, command::CHECK),
         15 => check_erased(dice, session, flash),
         16 => header(command::INFO, block, count).to_vec(),
-        17 => vec![command::BIN, dice.below(3) as u8, 1, 2, 3, 4, 5, 6],
+        17 => vec![
+            command::BIN,
+            [0, 0, 1, 2, 128][dice.below(5) as usize],
+            1,
+            2,
+            3,
+            4,
+            5,
+            6,
+        ],
         18 => header(command::RESET, block, count).to_vec(),
         _ => {
             let unknown = [0, 8, 9, 255, dice.below(256) as u8];
@@ -301,13 +310,22 @@ fn erased_run(dice: &mut Dice, session: &Session, flash: &[u8]) -> Option<(u16, 
 }
 
 fn check_erased(dice: &mut Dice, session: &Session, flash: &[u8]) -> Vec<u8> {
-    if dice.below(3) == 0 {
-        return around_a_lone_byte(dice, session, flash, command::CHECK);
+    match (dice.below(4), erased_run(dice, session, flash)) {
+        (0, _) => around_a_lone_byte(dice, session, flash, command::CHECK),
+        (1..=2, _) => up_to_the_first(dice, session, flash, command::CHECK),
+        (_, Some((block, run))) => header(command::CHECK, block, run + dice.below(2)).to_vec(),
+        _ => ranged(dice, session, command::CHECK),
     }
-    match erased_run(dice, session, flash) {
-        Some((block, run)) => header(command::CHECK, block, run + dice.below(2)).to_vec(),
-        None => ranged(dice, session, command::CHECK),
-    }
+}
+
+/// A range from the application's start, or a random block of it, up to the
+/// first byte that is not erased, however far, or with that byte.
+fn up_to_the_first(dice: &mut Dice, session: &Session, flash: &[u8], number: u8) -> Vec<u8> {
+    let block = session.a + dice.below(session.b - session.a) * dice.below(2);
+    let rest = &flash[(block * BLOCK) as usize..(session.b * BLOCK) as usize];
+    let run = rest.iter().take_while(|byte| **byte == ERASED).count() as u32;
+    let length = (run + dice.below(2)).clamp(1, rest.len() as u32);
+    header(number, block as u16, length).to_vec()
 }
 
 /// A range over the first block, from a random one on, of which one byte alone
@@ -335,6 +353,7 @@ fn prog(dice: &mut Dice, session: &Session, flash: &[u8]) -> Vec<u8> {
     let (block, run) = match (dice.below(18), run) {
         (3.., Some(found)) => found,
         (2, _) => return around_a_lone_byte(dice, session, flash, command::PROG),
+        (1, _) => return up_to_the_first(dice, session, flash, command::PROG),
         _ => return prog_anywhere(dice, session),
     };
     let length = match dice.below(5) {

@@ -94,7 +94,10 @@ const BYTES: [u8; 18] = [
 /// doesn't, the session is to be served.
 pub fn altered(dice: &mut Dice, mut session: Session) -> Session {
     let number = strange_number(dice, &session);
-    let byte = BYTES[dice.below(BYTES.len() as u32) as usize];
+    let byte = match dice.below(2) {
+        0 => BYTES[dice.below(BYTES.len() as u32) as usize],
+        _ => STATES[dice.below(6) as usize],
+    };
     match dice.below(14) {
         0 => session.a = number,
         1 => session.b = number,
