@@ -35,7 +35,7 @@ lineOf l =
     }
 
 -- the reply buffer before each call
-abbrev pub untouched : List ℕ
+abbrev untouched : List ℕ
 untouched = replicate 1024 0xEE
 
 -- a line, the session for the next call, and the flash
