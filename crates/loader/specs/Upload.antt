@@ -5,7 +5,7 @@ use mathlib.Core.List.{List}
 use lib.Dec.{eqb, ltb}
 use lib.ListN.{length}
 use Rattle.session.specs.Codes.{idle, uploadIdle, ok}
-use Rattle.session.specs.Session.{phaseOf, noDownload, upOf}
+use Rattle.session.specs.Session.{phaseOf, noDownload, upOf, withPhase, withDown, withUp}
 use Rattle.session.specs.declared.Session.{Session}
 use Rattle.stream.specs.Stream.{nextOf}
 use Rattle.moves.specs.Answers.{Replied}
@@ -27,13 +27,8 @@ uploadEnds asked given = ltb asked 1024
 -- upload idle, at a place of the stream
 unfoldable pub uploadingAt : Session → ℕ → Session
 uploadingAt s place =
-    record {
-      board = s .board;
-      phase = phaseOf uploadIdle ok idle;
-      down = noDownload;
-      up = upOf (s .up .choice) (s .up .«prefix») (s .up .first .0) (s .up .len) place;
-      sums = s .sums;
-    }
+    withUp (withDown (withPhase s (phaseOf uploadIdle ok idle)) noDownload)
+    (upOf (s .up .choice) (s .up .«prefix») (s .up .first .0) (s .up .len) place)
 
 -- the session after so many bytes were asked for and given
 unfoldable pub uploadedOf : Session → ℕ → ℕ → Session

@@ -3,7 +3,7 @@ use Prim.Native.Nat.{ℕ}
 use mathlib.Core.Bool.{cond}
 use lib.Dec.{eqb}
 use Rattle.session.specs.Codes.{idle, downloadSync, error, ok, stalled}
-use Rattle.session.specs.Session.{phaseOf, noDownload, upOf, freshOf}
+use Rattle.session.specs.Session.{phaseOf, noDownload, upOf, withPhase, withDown, withUp, freshOf}
 use Rattle.session.specs.declared.Phase.{Phase}
 use Rattle.session.specs.declared.Download.{Download}
 use Rattle.session.specs.declared.Upload.{Upload}
@@ -18,7 +18,7 @@ rewound up = upOf (up .choice) (up .«prefix») (up .first .0) (up .len) 0
 
 -- the session in another state than upload idle, with the download that runs there or none
 unfoldable pub movedTo : Session → Phase → Download → Session
-movedTo s phase down = record { board = s .board; phase = phase; down = down; up = rewound (s .up); sums = s .sums }
+movedTo s phase down = withUp (withDown (withPhase s phase) down) (rewound (s .up))
 
 -- idle: a running download is dropped
 abbrev pub toIdle : Session → Session

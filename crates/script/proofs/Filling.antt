@@ -17,11 +17,16 @@ pub record Filled (f : ℕ → ℕ) (n : ℕ) (l : List ℕ) (i : ℕ) : Type 0 
 pub none-filled : (f : ℕ → ℕ) (l : List ℕ) → Filled f (length l) l 0
 none-filled f l = record { long = refl; each = λ k h. absurd (omega arith) }
 
-pub one-more : (f : ℕ → ℕ) (n : ℕ) (l : List ℕ) (i v : ℕ) → i < n → v ≡ f i → Filled f n l i → Filled f n (set l i v) (i + 1)
+pub one-more :
+    (f : ℕ → ℕ) (n : ℕ) (l : List ℕ) (i v : ℕ) → i < n → v ≡ f i → Filled f n l i
+    → Filled f n (set l i v) (i + 1)
 one-more f n l i v h e w =
     record {
       long = length-set l i v ∙ w .long;
-      each = below-more _ _ (λ k lt. getD-set-other l i k v 0 (omega arith) ∙ w .each k lt) (getD-set-same l i v 0 (omega arith) ∙ e);
+      each =
+          below-more _ _
+          (λ k lt. getD-set-other l i k v 0 (omega arith) ∙ w .each k lt)
+          (getD-set-same l i v 0 (omega arith) ∙ e);
     }
 
 pub all-filled : (f : ℕ → ℕ) (n : ℕ) (l : List ℕ) (i : ℕ) → n ≤ i → Filled f n l i → l ≡ values f 0 n

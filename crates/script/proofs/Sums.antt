@@ -6,7 +6,7 @@ use native.Mathlib.Omega.{arith}
 use lib.ListN.{getD}
 use Rattle.crc.specs.Crc.{crcFrom}
 use Rattle.crc.proofs.Laws.{crc-append}
-use Rattle.stream.specs.Stream.{bytes4}
+use Rattle.numbers.specs.Numbers.{bytes4}
 use Rattle.script.specs.Turn.{sumsFrom}
 
 -- a turn takes in the four bytes of the next

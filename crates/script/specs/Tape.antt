@@ -6,7 +6,7 @@ use lib.Dec.{eqb, leb, ltb}
 use lib.ListN.{length, getD, drop}
 use Rattle.flash.specs.Flash.{blockSize}
 use Rattle.sums.specs.Sum.{values}
-use Rattle.request.specs.Request.{wordAt}
+use Rattle.numbers.specs.Numbers.{wordAt, longAt}
 use Rattle.script.specs.declared.tape.Head.{Head}
 use Rattle.script.specs.declared.tape.Record.{Record}
 use Rattle.script.specs.declared.tape.Record.the-variants.{Call, End}
@@ -17,8 +17,8 @@ headOf script =
     record {
       a = getD script 0 0;
       b = getD script 1 0;
-      part0 = wordAt script 2 + wordAt script 4 * 65536;
-      part1 = wordAt script 6 + wordAt script 8 * 65536;
+      part0 = longAt script 2;
+      part1 = longAt script 6;
     }
 
 -- where the setup of a record ends: a byte says how many bytes it has

@@ -4,10 +4,9 @@ use mathlib.Core.List.{List, [], _++_}
 use lib.ListN.{getD, replicate}
 use Rattle.crc.specs.Crc.{crcOf}
 use Rattle.sums.specs.Sum.{mostBlocks}
-use Rattle.stream.specs.Stream.{bytes4}
+use Rattle.numbers.specs.Numbers.{bytes4}
 use Rattle.session.specs.declared.Session.{Session}
-use Rattle.moves.specs.declared.Outcome.{Outcome}
-use Rattle.moves.specs.Answers.{Leaves, answerNumber}
+use Rattle.moves.specs.Answers.{Leaves}
 use Rattle.loader.specs.Step.{stepOf}
 use Rattle.script.specs.declared.line.Line.{Line}
 use Rattle.script.specs.declared.Turn.{Turn}
@@ -21,22 +20,22 @@ sumsFrom block k (suc n) = bytes4 (getD block k 0) ++ sumsFrom block (k + 1) n
 abbrev pub sumBytes : List ℕ → List ℕ
 sumBytes block = sumsFrom block 0 mostBlocks
 
--- the line for an outcome, the reply buffer and the flash
-unfoldable pub lineOf : Outcome → List ℕ → List ℕ → Line
-lineOf o reply flash =
+-- the line for all that a call left
+unfoldable pub lineOf : Leaves → Line
+lineOf l =
     record {
-      answer = answerNumber (o .answer);
-      count = o .count;
-      state = o .session .phase .state .0;
-      status = o .session .phase .status .0;
-      whole = o .session .sums .whole;
-      sums = crcOf (sumBytes (o .session .sums .block));
-      reply = crcOf reply;
-      flash = crcOf flash;
+      answer = l .answer;
+      count = l .count;
+      state = l .session .phase .state .0;
+      status = l .session .phase .status .0;
+      whole = l .session .sums .whole;
+      sums = crcOf (sumBytes (l .session .sums .block));
+      reply = crcOf (l .reply);
+      flash = crcOf (l .flash);
     }
 
 -- the reply buffer before each call
-abbrev pub untouched : List ℕ
+abbrev untouched : List ℕ
 untouched = replicate 1024 0xEE
 
 -- a line, the session for the next call, and the flash
@@ -50,12 +49,7 @@ turned t flash = record { line = t .line; session = t .session; flash = flash }
 
 -- what all that a call left is worth
 unfoldable pub worth : Leaves → Turned
-worth l =
-    record {
-      line = lineOf (l .outcome) (l .reply) (l .flash);
-      session = l .outcome .session;
-      flash = l .flash;
-    }
+worth l = record { line = lineOf l; session = l .session; flash = l .flash }
 
 -- a call
 unfoldable pub turnOf : Session → List ℕ → List ℕ → List ℕ → Turned

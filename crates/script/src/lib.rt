@@ -20,9 +20,9 @@ const ROOM: usize = 261_120;
 const UNTOUCHED: u8 = 0xEE;
 
 // What a call is worth: its line, and the session for the next.
-pub struct Turn {
-    pub line: Line,
-    pub session: Session,
+struct Turn {
+    line: Line,
+    session: Session,
 }
 
 // One call with a reply buffer of its own.

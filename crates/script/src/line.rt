@@ -4,30 +4,19 @@ use moves::Outcome;
 use sums::MOST;
 ghost use mathlib.Core.Path.{_≡_};
 ghost use Rattle.crc.specs.Crc.{crcOf};
-ghost use Rattle.stream.specs.Stream.{bytes4};
+ghost use Rattle.moves.specs.Answers.{leaves};
 ghost use Rattle.script.specs.Turn.{sumBytes, lineOf};
 
 // The last three are the sums of the kept block sums, of the whole reply buffer and of the flash.
 pub struct Line {
-    pub answer: u32,
-    pub count: u32,
-    pub state: u8,
-    pub status: u8,
-    pub whole: u32,
-    pub sums: u32,
-    pub reply: u32,
-    pub flash: u32,
-}
-
-fn low4(n: u32) -> [u8; 4]
-    ensures { λ r. ⌜ r ≡ bytes4 n ⌝ }
-{
-    [
-        (n % 256) as u8,
-        (n / 256 % 256) as u8,
-        (n / 65536 % 256) as u8,
-        (n / 16_777_216 % 256) as u8,
-    ]
+    answer: u32,
+    count: u32,
+    state: u8,
+    status: u8,
+    whole: u32,
+    sums: u32,
+    reply: u32,
+    flash: u32,
 }
 
 // The sum of the kept block sums, four bytes each.
@@ -37,7 +26,8 @@ fn sum_of_sums(block: &[u32; MOST]) -> u32
     let mut sum = crc::START;
     let mut i = 0;
     while i < MOST {
-        let bytes = low4(block[i]);
+        let n = numbers::low4(block[i]);
+        let bytes = [n.0, n.1, n.2, n.3];
         sum = crc::sum_from(sum, &bytes);
         i += 1;
     }
@@ -45,7 +35,7 @@ fn sum_of_sums(block: &[u32; MOST]) -> u32
 }
 
 pub fn line_of(outcome: Outcome, reply: &[u8], flash: &[u8]) -> Line
-    ensures { λ r. ⌜ r ≡ lineOf outcome (now (reply .entry)) (now (flash .entry)) ⌝ }
+    ensures { λ r. ⌜ r ≡ lineOf (leaves outcome (now (flash .entry)) (now (reply .entry))) ⌝ }
 {
     let answer = outcome.answer;
     let sums = outcome.session.sums;

@@ -23,26 +23,27 @@ pub enum Record {
     End,
 }
 
-fn wide(byte: u8) -> u32
-    ensures { λ r. ⌜ r ≡ byte ⌝ }
-{
-    byte as u32
-}
-
 pub fn read_head(script: &[u8]) -> Head
     requires { ⌜ 10 ≤ length (now script) ⌝ }
     ensures { λ r. ⌜ r ≡ headOf (now (script .entry)) ⌝ }
 {
     let a = script[0];
     let b = script[1];
-    let part0 = request::word(script, 2) + request::word(script, 4) * 65536;
-    let part1 = request::word(script, 6) + request::word(script, 8) * 65536;
+    let part0 = numbers::long(script, 2);
+    let part1 = numbers::long(script, 6);
     Head {
         a: a,
         b: b,
         part0: part0,
         part1: part1,
     }
+}
+
+// Where a setup of so many bytes ends.
+fn setup_end(long: u8) -> u32
+    ensures { λ r. ⌜ r ≡ long + 1 ⌝ }
+{
+    long as u32 + 1
 }
 
 // The record that the rest of a script begins with; none at the end, nor where it is cut short.
@@ -52,11 +53,11 @@ pub fn next_record(rest: &[u8]) -> Record
     if rest.len() < 3 {
         return Record::End;
     }
-    let ends = wide(rest[0]) as usize + 1;
+    let ends = setup_end(rest[0]) as usize;
     if rest.len() < ends + 2 {
         return Record::End;
     }
-    let next = ends + 2 + request::word(rest, ends) as usize;
+    let next = ends + 2 + numbers::word(rest, ends) as usize;
     if rest.len() < next {
         return Record::End;
     }

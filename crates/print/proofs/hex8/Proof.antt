@@ -29,15 +29,16 @@ digit-requires-8 c κs = search needs
 
 returns : tie.Need-returns
 returns c =
+    let half = c .before .before .before .before in
     rw (
       c .digit8 .ensures,
       c .before .digit7 .ensures,
       c .before .before .digit6 .ensures,
       c .before .before .before .digit5 .ensures,
-      c .before .before .before .before .digit4 .ensures,
-      c .before .before .before .before .before .digit3 .ensures,
-      c .before .before .before .before .before .before .digit2 .ensures,
-      c .before .before .before .before .before .before .before .digit .ensures,
+      half .digit4 .ensures,
+      half .before .digit3 .ensures,
+      half .before .before .digit2 .ensures,
+      half .before .before .before .digit .ensures,
     )
 
 pub hex8-spec : {M : Type 1} → statement M

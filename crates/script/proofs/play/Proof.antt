@@ -35,7 +35,8 @@ play-from-requires c κs = simp length-take (omega arith)
 returns-2 : tie.Need-returns-2
 unfolding callsOf
 returns-2 c =
-    let long = le-ltb (length (c .before .before .before .before .before .before .before .before .args .script .now)) 10 (omega arith) in
+    let made = c .before .before .before in
+    let long = le-ltb _ 10 (made .before .before .before .if1 .left) in
     rw long (c .before .play-from .ensures)
 
 pub play-spec : {M : Type 1} → statement M

@@ -22,7 +22,10 @@ same-length c = search needs
 
 returns : tie.Need-returns
 unfolding turnOf worth
-returns c = rw (c .before .line-of .ensures) (ap worth (c .before .before .before .before .before .before .before .step .ensures))
+returns c =
+    let lent = c .before .before .before in
+    let stepped = lent .before .before .before .before .step in
+    rw (c .before .line-of .ensures) (ap worth (stepped .ensures))
 
 pub play-call-spec : {M : Type 1} → statement M
 play-call-spec =

@@ -12,7 +12,8 @@ use Rattle.script.proofs.play_calls.Statement.{statement}
 use Rattle.script.proofs.play_calls.Tie as tie
 
 abbrev Inv-loop : tie.InvT-loop
-Inv-loop script flash₀ session₀ at₀ played₀ flash session at played = (length flash ≡ length flash₀) × Counted script at played
+Inv-loop script flash₀ session₀ at₀ played₀ flash session at played =
+    (length flash ≡ length flash₀) × Counted script at played
 
 abbrev μ-loop : tie.MeasureT-loop
 μ-loop script flash₀ session₀ at₀ played₀ flash session at played = length script - at
@@ -35,19 +36,30 @@ next-record-requires c κs = search needs
 enum-known-ends : tie.Need-enum-known-ends Inv-loop μ-loop
 enum-known-ends c = search needs
 
+-- the turn in which a record was read, and the call's start
+abbrev turn : tie.After-known-told Inv-loop μ-loop → tie.In-loop Inv-loop μ-loop
+turn c = c .before .before .before .before .before
+
+abbrev began : tie.In-loop Inv-loop μ-loop → tie.Start Inv-loop μ-loop
+began t = t .before .before .before .before
+
+-- the record's reading, once its call was played
+abbrev reading : tie.After-session Inv-loop μ-loop → tie.After-known-told Inv-loop μ-loop
+reading c = let played = c .before .before .before .before in played .before .before .before .before
+
 -- which record was read
 read :
     (c : tie.After-known-told Inv-loop μ-loop)
-    → recordOf (rest (c .before .before .before .before .before .before .before .before .before .args .script .now) (c .before .before .before .before .before .before .loop .at)) ≡ Call (c .before .ends .given .0 .0) (c .before .ends .given .0 .1 .0)
+    → recordOf (rest (began (turn c) .args .script .now) (turn c .before .loop .at))
+    ≡ Call (c .before .ends .given .0 .0) (c .before .ends .given .0 .1 .0)
 read c = sym (c .before .before .before .next-record .ensures) ∙ c .before .ends .given .1
 
 -- where its parts lie
 told :
     (c : tie.After-known-told Inv-loop μ-loop)
-    → Inside (c .before .before .before .before .before .before .before .before .before .args .script .now) (c .before .before .before .before .before .before .loop .at) (c .before .ends .given .0 .0) (c .before .ends .given .0 .1 .0)
-told c =
-    let turn = c .before .before .before .before .before in
-    inside _ _ (turn .loop-test .taken) _ _ (read c)
+    → Inside (began (turn c) .args .script .now) (turn c .before .loop .at)
+    (c .before .ends .given .0 .0) (c .before .ends .given .0 .1 .0)
+told c = inside _ _ (turn c .loop-test .taken) _ _ (read c)
 
 add-from : tie.Need-add-from Inv-loop μ-loop
 add-from c = let h = told c in omega arith
@@ -78,26 +90,24 @@ show-requires c κs = search needs
 
 add-at : tie.Need-add-at Inv-loop μ-loop
 add-at c =
-    let t = c .before .before .before .before .before .before .before .before in
-    let h = told t in
-    let few = t .before .before .before .before .before .before .before .before .before .good .0 .0 in
+    let h = told (reading c) in
+    let few = began (turn (reading c)) .good .0 .0 in
     omega arith
 
 add-played : tie.Need-add-played Inv-loop μ-loop
 add-played c =
-    let t = c .before .before .before .before .before .before .before .before in
-    let few = t .before .before .before .before .before .before .before .before .before .good .0 .0 in
-    let l = t .before .before .before .before .before .before .loop .inv .1 in
+    let t = turn (reading c) in
+    let few = began t .good .0 .0 in
+    let counted = t .before .loop .inv .1 in
     omega arith
 
 loop-less : tie.Need-loop-less Inv-loop μ-loop
-loop-less c = let h = told (c .before .before .before .before .before .before .before .before) in omega arith
+loop-less c = let h = told (reading c) in omega arith
 
 loop-again : tie.Need-loop-again Inv-loop μ-loop
 loop-again c =
-    let t = c .before .before .before .before .before .before .before .before in
-    let turn = t .before .before .before .before .before in
-    (omega arith, one-counted _ _ _ _ _ (turn .loop-test .taken) (read t) (told t) (turn .before .loop .inv .1))
+    let r = reading c in
+    (omega arith, one-counted _ _ _ _ _ (turn r .loop-test .taken) (read r) (turn r .before .loop .inv .1))
 
 enum-told : tie.Need-enum-told Inv-loop μ-loop
 enum-told c = search needs
@@ -106,7 +116,9 @@ same-length : tie.Need-same-length Inv-loop μ-loop
 same-length c = search needs
 
 returns : tie.Need-returns Inv-loop μ-loop
-returns c = all-at-cut _ _ _ (sym (c .before .before .next-record .ensures) ∙ c .enum-told .given .1) (c .before .before .before .before .before .loop .inv .1)
+returns c =
+    let l = c .before .before .before .before .before .loop in
+    all-at-cut _ _ _ (sym (c .before .before .next-record .ensures) ∙ c .enum-told .given .1) (l .inv .1)
 
 same-length-2 : tie.Need-same-length-2 Inv-loop μ-loop
 same-length-2 c = search needs
