@@ -48,7 +48,8 @@ pub extern "C" fn mullirim_start(
 
 // One request by value. It is apart from `mullirim_request`, whose proof is by hand, so that all but the store is proved as elsewhere.
 fn serve(session: Session, flash: &mut [u8], setup: &[u8], d: &[u8], reply: &mut [u8]) -> Served
-    ensures { λ r. ⌜ left (r .answer) (r .session) (now (flash .exit)) (now (reply .exit)) ≡ servedOf session (now (flash .entry)) (now (setup .entry)) (now (d .entry)) (now (reply .entry)) ⌝ }
+    ensures { λ r. ⌜ left (r .answer) (r .session) (now (flash .exit)) (now (reply .exit))
+        ≡ servedOf session (now (flash .entry)) (now (setup .entry)) (now (d .entry)) (now (reply .entry)) ⌝ }
 {
     let o = loader::step(session, flash, setup, d, reply);
     let answer = o.answer;
@@ -71,7 +72,8 @@ pub extern "C" fn mullirim_request(
     d: &[u8],
     reply: &mut [u8],
 ) -> Reply
-    ensures { λ r. ⌜ left r (now (session .exit)) (now (flash .exit)) (now (reply .exit)) ≡ servedOf (now (session .entry)) (now (flash .entry)) (now (setup .entry)) (now (d .entry)) (now (reply .entry)) ⌝ }
+    ensures { λ r. ⌜ left r (now (session .exit)) (now (flash .exit)) (now (reply .exit))
+        ≡ servedOf (now (session .entry)) (now (flash .entry)) (now (setup .entry)) (now (d .entry)) (now (reply .entry)) ⌝ }
 {
     let served = serve(*session, flash, setup, d, reply);
     *session = served.session;

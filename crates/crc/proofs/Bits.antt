@@ -25,12 +25,15 @@ differ-assoc x y z hx hy hz =
     (of-digits (λ (b : ℕ). differ (differ 1 b) z ≡ differ 1 (differ b z)) refl
     (of-digits (λ (d : ℕ). d ≡ differ 1 (differ 1 d)) refl refl z hz) y hy) x hx
 
+low-differ : (a b : ℕ) → differ (a % 2) (b % 2) < 2
+low-differ a b = differ-digit (a % 2) (b % 2) (low-digit a) (low-digit b)
+
 -- the low digit of a xor, and the rest of it
 pub xor-low : (a b : ℕ) → bitXor a b % 2 ≡ differ (a % 2) (b % 2)
-xor-low a b = ap (λ (x : ℕ). x % 2) (xor-step a b) ∙ digits-mod (bitXor (a / 2) (b / 2)) (differ-digit (a % 2) (b % 2) (low-digit a) (low-digit b))
+xor-low a b = ap (λ (x : ℕ). x % 2) (xor-step a b) ∙ digits-mod (bitXor (a / 2) (b / 2)) (low-differ a b)
 
 pub xor-half : (a b : ℕ) → bitXor a b / 2 ≡ bitXor (a / 2) (b / 2)
-xor-half a b = ap (λ (x : ℕ). x / 2) (xor-step a b) ∙ digits-div (bitXor (a / 2) (b / 2)) (differ-digit (a % 2) (b % 2) (low-digit a) (low-digit b))
+xor-half a b = ap (λ (x : ℕ). x / 2) (xor-step a b) ∙ digits-div (bitXor (a / 2) (b / 2)) (low-differ a b)
 
 pub xor-assoc : (a b c : ℕ) → bitXor (bitXor a b) c ≡ bitXor a (bitXor b c)
 xor-assoc a =

@@ -106,7 +106,8 @@ remainder-from : (count n i : ℕ) → i < count → getD (remaindersFrom count 
 unfolding remaindersFrom
 remainder-from zero n i h = absurd (omega arith)
 remainder-from (suc count) n zero h = ap (bitSteps 8) (sym (add-zero n))
-remainder-from (suc count) n (suc i) h = remainder-from count (suc n) i (le-of-suc-le-suc h) ∙ ap (bitSteps 8) (suc-add n i ∙ sym (add-suc n i))
+remainder-from (suc count) n (suc i) h =
+    remainder-from count (suc n) i (le-of-suc-le-suc h) ∙ ap (bitSteps 8) (suc-add n i ∙ sym (add-suc n i))
 
 pub remainder-at : (i : ℕ) → i < 256 → getD remainders i 0 ≡ bitSteps 8 i
 unfolding remainders

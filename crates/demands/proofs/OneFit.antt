@@ -22,7 +22,8 @@ use Rattle.session.specs.declared.Phase.{Phase}
 use Rattle.session.specs.declared.Download.{Download}
 use Rattle.session.specs.declared.Upload.{Upload}
 use Rattle.session.specs.declared.Session.{Session}
-use Rattle.session.proofs.Laws.{fit-kept, kept-fit, fit-facts, facts-fit, end-in-flash, split-facts, zeros-unfit, fresh-fit, fit-near, running-false}
+use Rattle.session.proofs.Laws.{fit-kept, kept-fit, fit-facts, facts-fit, fit-near, end-in-flash}
+use Rattle.session.proofs.Laws.{split-facts, zeros-unfit, fresh-fit, running-false}
 use Rattle.session.proofs.Tests.{left-of, right-of, or-unless, where-true, pick-most}
 use Rattle.numbers.specs.Numbers.{wordAt, longAt}
 use Rattle.request.specs.Request.{wLength}
@@ -214,13 +215,14 @@ module _ (s : Session) (e : fitOf s ≡ true) where
   to-idle no-error no-upload stopped =
       let k = fit-kept s e in
       let fit = fit-facts s e in
-      kept-fit (withPhase s (phaseOf idle (s .phase .status .0) idle))
+      let p = phaseOf idle (s .phase .status .0) idle in
+      kept-fit (withPhase s p)
       (record {
         split = k .split;
         state = refl;
         status = rw (fit .status-outside no-error);
-        download = ap (λ (d : Download). downloadRule (phaseOf idle (s .phase .status .0) idle) d) (fit .no-download (running-false (s .phase) stopped));
-        upload = not-uploading no-upload (phaseOf idle (s .phase .status .0) idle);
+        download = ap (λ (d : Download). downloadRule p d) (fit .no-download (running-false (s .phase) stopped));
+        upload = not-uploading no-upload p;
         after = refl;
         range = k .range;
         place = refl;

@@ -41,7 +41,7 @@ pub record Continues : Type 0 where
 
 pub only-named-met : Continues
 unfolding before startSite begun blank range spliced firstIn searched appEnd streamLength wholeUpload freshOf fitOf formOf setupOf
-    dataAsked allowedOf movedTo allErased sumsAfter wroteOf bytesDone decidedOf progOf wellFormed byNumber settled carriedOut commandOf pieceOf dnloadOf answered
-    entered polled pollTime getstatusOf startable freshStart startOutcome ready served stepOf called next after commandNames
-    tookDnload mayChange noteOf notedAfter
+    dataAsked allowedOf movedTo allErased sumsAfter wroteOf bytesDone decidedOf progOf wellFormed byNumber settled carriedOut commandOf
+    pieceOf dnloadOf answered entered polled pollTime getstatusOf startable freshStart startOutcome ready served stepOf called next
+    after commandNames tookDnload mayChange noteOf notedAfter
 only-named-met = record { noted = refl; may = λ r. refl; erased-yet = refl; written = refl }

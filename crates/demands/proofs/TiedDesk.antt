@@ -99,15 +99,15 @@ module _ (p q : ℕ) (f buffer : List ℕ) (sized : length f ≡ startOf 64) (ro
     after-erase = next-from _ _ _ (serves (held 2 0 2 0 0 sums) f (eraseAll buffer) refl sized refl refl refl refl refl)
 
     after-seven : next stepOf (site (held 2 0 2 0 0 sums) f) (seven buffer) ≡ site (held 10 0x0B 2 0 0 sums) f
-    unfolding fitOf streamLength freshOf wholeUpload appEnd dataAsked setupOf formOf allowedOf served settled carriedOut dnloadOf commandOf wellFormed
-        faultOf movedTo
+    unfolding fitOf streamLength freshOf wholeUpload appEnd dataAsked setupOf formOf allowedOf served settled carriedOut dnloadOf
+        commandOf wellFormed faultOf movedTo
     after-seven = next-from _ _ _ (serves (held 2 0 2 0 0 sums) f (seven buffer) refl sized refl refl refl refl refl)
 
     after-poll :
         (g : List ℕ) → length g ≡ startOf 64 → next stepOf (site (held 3 0 2 0 0 sums) g) (getStatus buffer)
         ≡ site (held 2 0 2 0 0 sums) g
-    unfolding fitOf streamLength freshOf wholeUpload appEnd dataAsked setupOf formOf allowedOf served settled carriedOut getstatusOf answered polled
-        entered pollTime
+    unfolding fitOf streamLength freshOf wholeUpload appEnd dataAsked setupOf formOf allowedOf served settled carriedOut getstatusOf
+        answered polled entered pollTime
     after-poll g long = next-from _ _ _ (serves (held 3 0 2 0 0 sums) g (getStatus buffer) refl long refl refl refl refl refl)
 
     -- a PROG of one byte that brings none, and one that brings a zero
@@ -134,22 +134,23 @@ module _ (p q : ℕ) (f buffer : List ℕ) (sized : length f ≡ startOf 64) (ro
         ∙ rw (w-erased 16 1 (omega arith) (omega arith)))
 
     one-polled : next stepOf (site (held 3 0 5 16384 1 sums) w) (getStatus buffer) ≡ site (held 5 0 2 16384 1 sums) w
-    unfolding fitOf streamLength freshOf wholeUpload appEnd dataAsked setupOf formOf allowedOf served settled carriedOut getstatusOf answered polled
-        entered pollTime
+    unfolding fitOf streamLength freshOf wholeUpload appEnd dataAsked setupOf formOf allowedOf served settled carriedOut getstatusOf
+        answered polled entered pollTime
     one-polled = next-from _ _ _ (serves (held 3 0 5 16384 1 sums) w (getStatus buffer) refl w-long refl refl refl refl refl)
 
     zero-polled : next stepOf (site (held 3 0 5 16385 0 sums) z) (getStatus buffer) ≡ site (held 5 0 2 16385 0 sums) z
-    unfolding fitOf streamLength freshOf wholeUpload appEnd dataAsked setupOf formOf allowedOf served settled carriedOut getstatusOf answered polled
-        entered pollTime
+    unfolding fitOf streamLength freshOf wholeUpload appEnd dataAsked setupOf formOf allowedOf served settled carriedOut getstatusOf
+        answered polled entered pollTime
     zero-polled = next-from _ _ _ (serves (held 3 0 5 16385 0 sums) z (getStatus buffer) refl z-long refl refl refl refl refl)
 
     zero-closed : next stepOf (site (held 5 0 2 16385 0 sums) z) (close buffer) ≡ site (held 6 0 2 0 0 sums) z
-    unfolding fitOf streamLength freshOf wholeUpload appEnd dataAsked setupOf formOf allowedOf served settled carriedOut dnloadOf pieceOf closedOf movedTo
+    unfolding fitOf streamLength freshOf wholeUpload appEnd dataAsked setupOf formOf allowedOf served settled carriedOut dnloadOf
+        pieceOf closedOf movedTo
     zero-closed = next-from _ _ _ (serves (held 5 0 2 16385 0 sums) z (close buffer) refl z-long refl refl refl refl refl)
 
     closed-polled : next stepOf (site (held 6 0 2 0 0 sums) z) (getStatus buffer) ≡ site (held 2 0 2 0 0 sums) z
-    unfolding fitOf streamLength freshOf wholeUpload appEnd dataAsked setupOf formOf allowedOf served settled carriedOut getstatusOf answered polled
-        entered pollTime
+    unfolding fitOf streamLength freshOf wholeUpload appEnd dataAsked setupOf formOf allowedOf served settled carriedOut getstatusOf
+        answered polled entered pollTime
     closed-polled = next-from _ _ _ (serves (held 6 0 2 0 0 sums) z (getStatus buffer) refl z-long refl refl refl refl refl)
 
   -- where the examples stand: fresh, fresh with all erased, a download of one byte open, one closed, and in error
@@ -220,8 +221,8 @@ module _ (p q : ℕ) (f buffer : List ℕ) (sized : length f ≡ startOf 64) (ro
   -- all that each asks and expects is computed where it stands
   desk : All (Expected stepOf) (deskCases startOutcome p q f buffer)
   unfolding fitOf streamLength freshOf wholeUpload appEnd dataAsked setupOf formOf allowedOf served stallOf faultOf movedTo answered
-      getstateOf queryOf getstatusOf polled entered pollTime dnloadOf commandOf wellFormed byNumber settled carriedOut eraseOf wipeDone sumsWiped progOf wroteOf bytesDone
-      pieceOf closedOf
+      getstateOf queryOf getstatusOf polled entered pollTime dnloadOf commandOf wellFormed byNumber settled carriedOut eraseOf wipeDone
+      sumsWiped progOf wroteOf bytesDone pieceOf closedOf
   desk =
       example 0 _ _ at-start (serves _ f _ refl sized refl refl refl refl refl) refl refl refl refl refl refl
       and example 1 _ _ at-start (serves _ f _ refl sized refl refl refl refl refl) refl refl refl refl refl refl

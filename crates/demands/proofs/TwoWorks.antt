@@ -161,7 +161,8 @@ module _
   piece-fits : at .session .down .place .0 + length (c .bytes) ≤ length (at .flash)
   piece-fits =
       let s = at .session in
-      omega (arith, k .prepared .rules .left-to (inl loading), end-in-flash (s .board), few, asks-brings at c n k, k .prepared .flash-length)
+      let fits = k .prepared .rules .left-to (inl loading) in
+      omega (arith, fits, end-in-flash (s .board), few, asks-brings at c n k, k .prepared .flash-length)
 
   piece-done : BytesDone stepOf at c (at .session .down .place .0) (at .session .down .left) (c .bytes)
   piece-done =

@@ -34,10 +34,13 @@ use Rattle.command.specs.Download.{dnloadOf}
 use Rattle.command.proofs.Laws.{pick, dnload-can}
 use Rattle.loader.specs.Reply.{answered}
 use Rattle.loader.specs.Upload.{placeOf, answerOf}
-use Rattle.loader.specs.Step.{startable, ready, Decided, decided, only, answers, served, decidedOf, withReply, settled, stepOf, storesOf}
+use Rattle.loader.specs.Step.{startable, ready, Decided, decided, only, answers, served, decidedOf, withReply, settled, stepOf}
+use Rattle.loader.specs.Step.{storesOf}
 
 -- an answer of n bytes
-pub answered-by : (s : Session) (bytes before after : List ℕ) (n : ℕ) → n ≡ length bytes → after ≡ bytes ++ drop (length bytes) before → replied (outcome Answer.Taken n s) after ≡ answered s bytes before
+pub answered-by :
+    (s : Session) (bytes before after : List ℕ) (n : ℕ) → n ≡ length bytes → after ≡ bytes ++ drop (length bytes) before
+    → replied (outcome Answer.Taken n s) after ≡ answered s bytes before
 unfolding answered
 answered-by s bytes before after n p q = ap₂ (λ (k : ℕ) (l : List ℕ). replied (outcome Answer.Taken k s) l) p q
 

@@ -78,7 +78,8 @@ fn serve(r: Request, s: Session, flash: &[u8], asked: u32, d: &[u8], reply: &mut
 
 // What a request does, well formed or not, in any state. Flash is only read: it can't change before every check has passed.
 fn decide(s: Session, flash: &[u8], setup: &[u8], d: &[u8], reply: &mut [u8]) -> Plan
-    ensures { λ p. ⌜ decided p (now (reply .exit)) ≡ decidedOf s (now (flash .entry)) (now (setup .entry)) (now (d .entry)) (now (reply .entry)) ⌝ }
+    ensures { λ p. ⌜ decided p (now (reply .exit))
+        ≡ decidedOf s (now (flash .entry)) (now (setup .entry)) (now (d .entry)) (now (reply .entry)) ⌝ }
 {
     if !is_ready(s, flash.len(), setup, d.len(), reply.len()) {
         return jobs::only(moves::unfit(s));
@@ -93,7 +94,8 @@ fn decide(s: Session, flash: &[u8], setup: &[u8], d: &[u8], reply: &mut [u8]) ->
 
 // One request: decided, then carried out.
 pub fn step(s: Session, flash: &mut [u8], setup: &[u8], d: &[u8], reply: &mut [u8]) -> Outcome
-    ensures { λ r. ⌜ leaves r (now (flash .exit)) (now (reply .exit)) ≡ stepOf s (now (flash .entry)) (now (setup .entry)) (now (d .entry)) (now (reply .entry)) ⌝ }
+    ensures { λ r. ⌜ leaves r (now (flash .exit)) (now (reply .exit))
+        ≡ stepOf s (now (flash .entry)) (now (setup .entry)) (now (d .entry)) (now (reply .entry)) ⌝ }
 {
     let plan = decide(s, flash, setup, d, reply);
     jobs::carry_out(plan, flash, d)

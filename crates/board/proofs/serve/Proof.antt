@@ -19,7 +19,9 @@ same-length-2 c = search needs
 
 returns : tie.Need-returns
 unfolding servedOf
-returns c = rw (c .number .ensures) (ap leftBy (c .before .before .before .before .before .before .step .ensures))
+returns c =
+    let n = c .before .before .before in
+    rw (c .number .ensures) (ap leftBy (n .before .before .before .step .ensures))
 
 pub serve-spec : {M : Type 1} → statement M
 serve-spec = tie.close (tie.spec step-requires number-requires same-length same-length-2 returns)

@@ -21,9 +21,10 @@ returns : tie.Need-returns
 unfolding binOf movedTo
 returns c =
     let s = c .before .before .before .before .args .s in
+    let told = c .before .before .before .prefix-for .ensures in
     c .taken .ensures
     ∙ ap takenOf (c .before .sync .ensures)
-    ∙ ap (λ (p : ℕ). takenOf (toSync (withUp s (upOf (s .up .choice) p (s .up .first .0) (s .up .len) 0)) 2 noDownload)) (c .before .before .before .prefix-for .ensures)
+    ∙ ap (λ (p : ℕ). takenOf (toSync (withUp s (upOf (s .up .choice) p (s .up .first .0) (s .up .len) 0)) 2 noDownload)) told
 
 pub bin-spec : {M : Type 1} → statement M
 bin-spec = tie.close (tie.spec prefix-for-requires sync-requires taken-requires returns)

@@ -71,8 +71,9 @@ returns c =
     let m = c .before in
     let l = m .before in
     let s = l .before .before .before .before .before in
+    let len = length (s .args .d .now) - 8 in
     c .prog .ensures
-    ∙ ap₂ (λ (x y : ℕ). progOf (s .args .s) (s .args .flash .now) x y (length (s .args .d .now) - 8)) (l .before .word .ensures .0) (l .long .ensures)
+    ∙ ap₂ (λ (x y : ℕ). progOf (s .args .s) (s .args .flash .now) x y len) (l .before .word .ensures .0) (l .long .ensures)
     ∙ sym (ap (λ (k : ℕ). byNumber k (s .args .s) (s .args .flash .now) (s .args .d .now)) (m .match .keys1))
 
 returns-2 : tie.Need-returns-2
@@ -81,8 +82,9 @@ returns-2 c =
     let m = c .before .before in
     let l = m .before in
     let s = l .before .before .before .before .before in
+    let told = c .before .read .ensures ∙ ap₂ (readOf (s .args .s)) (l .before .word .ensures .0) (l .long .ensures) in
     c .only .ensures
-    ∙ ap (λ (o : Outcome). planOf o Job.Nothing) (c .before .read .ensures ∙ ap₂ (readOf (s .args .s)) (l .before .word .ensures .0) (l .long .ensures))
+    ∙ ap (λ (o : Outcome). planOf o Job.Nothing) told
     ∙ sym (ap (λ (k : ℕ). byNumber k (s .args .s) (s .args .flash .now) (s .args .d .now)) (m .match .keys2))
 
 returns-3 : tie.Need-returns-3
@@ -91,8 +93,10 @@ returns-3 c =
     let m = c .before .before in
     let l = m .before in
     let s = l .before .before .before .before .before in
+    let f = s .args .flash .now in
+    let told = c .before .check .ensures ∙ ap₂ (checkOf (s .args .s) f) (l .before .word .ensures .0) (l .long .ensures) in
     c .only2 .ensures
-    ∙ ap (λ (o : Outcome). planOf o Job.Nothing) (c .before .check .ensures ∙ ap₂ (checkOf (s .args .s) (s .args .flash .now)) (l .before .word .ensures .0) (l .long .ensures))
+    ∙ ap (λ (o : Outcome). planOf o Job.Nothing) told
     ∙ sym (ap (λ (k : ℕ). byNumber k (s .args .s) (s .args .flash .now) (s .args .d .now)) (m .match .keys3))
 
 returns-4 : tie.Need-returns-4

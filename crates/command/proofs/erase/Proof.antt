@@ -40,7 +40,8 @@ returns-2 c =
     let s = i .before .before in
     let told = i .in-application .ensures ∙ ap (inApplication (s .args .s .board) (s .args .block .0)) (i .before .start .ensures) in
     yes-is _ _ _ _ (passed _ _ told (c .before .before .if1 .left))
-    (ap (λ (o : Outcome). planOf o (wipeOf (s .args .block .0) (s .args .count))) (c .taken .ensures ∙ ap takenOf (c .before .sync .ensures)))
+    (ap (λ (o : Outcome). planOf o (wipeOf (s .args .block .0) (s .args .count)))
+    (c .taken .ensures ∙ ap takenOf (c .before .sync .ensures)))
 
 pub erase-spec : {M : Type 1} → statement M
 erase-spec =

@@ -27,7 +27,8 @@ returns-2 : tie.Need-returns-2
 unfolding readOf movedTo
 returns-2 c =
     let i = c .before .before .before .before .before in
-    yes-is _ _ _ _ (passed _ _ (i .before .in-application .ensures) (i .if1 .left)) (c .taken .ensures ∙ ap takenOf (c .before .sync .ensures))
+    yes-is _ _ _ _ (passed _ _ (i .before .in-application .ensures) (i .if1 .left))
+    (c .taken .ensures ∙ ap takenOf (c .before .sync .ensures))
 
 pub read-spec : {M : Type 1} → statement M
 read-spec =

@@ -51,7 +51,9 @@ returns-2 c =
     let i = l .before .before in
     let y = i .before in
     let s = y .before .before .before .before .before in
-    let test = a .allowed .ensures ∙ ap₂ (λ (q : Request) (n : ℕ). allowedOf q n (s .args .s .phase .state .0)) (l .before .read-setup .ensures) (l .length-of .ensures) in
+    let r = l .before .read-setup .ensures in
+    let n = l .length-of .ensures in
+    let test = a .allowed .ensures ∙ ap₂ (λ (q : Request) (k : ℕ). allowedOf q k (s .args .s .phase .state .0)) r n in
     yes-is _ _ _ _ (passed _ _ (y .is-ready .ensures) (i .if1 .left))
     (no-is _ _ _ _ (refused _ _ test (c .before .before .if2 .taken)) (only-told _ _ _ _ (c .only2 .ensures) (c .before .stalled .ensures)))
 

@@ -23,7 +23,8 @@ returns c =
     let k = c .before .before in
     let s = k .before .before .before .before in
     let l = s .args .bytes .now in
-    answered-by (s .args .s) l _ _ _ (k .copy .ensures .0) (k .copy .ensures .1 ∙ ap (λ (x : List ℕ). x ++ drop (length l) (s .args .reply .now)) (take-length l))
+    answered-by (s .args .s) l _ _ _ (k .copy .ensures .0)
+    (k .copy .ensures .1 ∙ ap (λ (x : List ℕ). x ++ drop (length l) (s .args .reply .now)) (take-length l))
 
 pub answer-spec : {M : Type 1} → statement M
 answer-spec = tie.close (tie.spec copy-requires cast-t8 same-length returns)

@@ -29,8 +29,11 @@ unfolding answerOf
 uploaded-requires c κs =
     let k = c .before .before in
     let s = k .before .before .before .before .before in
+    let f = s .args .flash .now in
     let e = k .before .before .place .ensures in
-    let n = answer-near (s .args .s) (s .args .flash .now) (s .pre .0) (s .args .asked) (k .send .result) (s .pre .1 .0) (k .send .ensures .count ∙ ap (λ (p : ℕ). length (nextOf (s .args .s .board) (s .args .s .up) (s .args .flash .now) p (s .args .asked))) e) in
+    let same = ap (λ (p : ℕ). nextOf (s .args .s .board) (s .args .s .up) f p (s .args .asked)) e in
+    let count = k .send .ensures .count ∙ ap length same in
+    let n = answer-near (s .args .s) f (s .pre .0) (s .args .asked) (k .send .result) (s .pre .1 .0) count in
     (e, omega arith)
 
 same-length : tie.Need-same-length
