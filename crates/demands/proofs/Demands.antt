@@ -8,7 +8,7 @@ use Rattle.demands.proofs.TwoRows.{Rows-hold}
 use Rattle.demands.proofs.TwoCommands.{Commands-hold}
 use Rattle.demands.proofs.TwoWorks.{EraseWorks-holds, ProgramWorks-holds}
 use Rattle.demands.proofs.TwoStarts.{Starts-hold}
-use Rattle.demands.proofs.ThreeHistory.{history-holds}
+use Rattle.demands.proofs.ThreeHistory.{history-holds, sums-stay}
 use Rattle.demands.proofs.ThreeNamed.{only-named-holds}
 use Rattle.demands.proofs.ReadBack.{ReadBack-holds}
 
@@ -29,5 +29,6 @@ meets-demands =
       starts = Starts-hold;
       read-back = ReadBack-holds;
       history = history-holds;
+      sums-stay = sums-stay;
       only-named = only-named-holds;
     }

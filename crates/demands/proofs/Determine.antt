@@ -1,13 +1,14 @@
 -- The demands leave no choice: two loaders that meet them stand at the same site after any calls. Assumes nothing.
 use Prim.Native.Nat.{ℕ}
 use mathlib.Core.List.{List, [], _∷_}
-use mathlib.Core.Path.{_≡_, sym, subst}
+use mathlib.Core.Path.{_≡_, sym, ap, subst, _∙_}
 use native.Mathlib.Decide.{map-dec, ℕ-discrete, decLe, decLt}
 use lib.ListN.{length}
 use Rattle.flash.specs.Flash.{startOf}
 use Rattle.sums.specs.Sum.{mostBlocks, Right}
 use Rattle.sums.proofs.Laws.{right-unique}
-use Rattle.session.specs.Session.{boardOf, appEnd}
+use Rattle.session.specs.Session.{boardOf, appEnd, freshOf}
+use Rattle.sums.specs.declared.Sums.{Sums}
 use Rattle.session.specs.declared.Board.{Board}
 use Rattle.loader.specs.Step.{startOutcome, stepOf}
 use Rattle.demands.specs.Calls.{begun, Call, Site, called, next, after}
@@ -15,9 +16,9 @@ use Rattle.demands.specs.Asked.{Prepared}
 use Rattle.demands.specs.One.{Unfit, AllowedStart, BadStart}
 use Rattle.demands.specs.Two.{Fresh}
 use Rattle.demands.specs.Three.{Held}
-use Rattle.demands.specs.Determine.{SameStart, SameLeft, Determine}
+use Rattle.demands.specs.Determine.{SameStart, SameLeft, Determine, DetermineAnywhere}
 use Rattle.demands.proofs.Demands.{meets-demands}
-use Rattle.demands.proofs.DetermineRows.{Loader, agree, Same, SameFlash, SameSums, same-unfit, same-call}
+use Rattle.demands.proofs.DetermineRows.{Loader, agree, Same, SameFlash, SameSums, same-unfit, same-but-sums, same-call}
 
 -- both hold, or not
 both : {P Q : Type 0} → Dec P → Dec Q → Dec (P × Q)
@@ -109,14 +110,11 @@ module _ (x y : Loader) where
         record {
           answer = agree x y (λ z. fresh z .answer);
           count = agree x y (λ z. fresh z .count);
-          session = λ i.
-              record {
-                board = agree x y (λ z. fresh z .board) i;
-                phase = agree x y (λ z. fresh z .phase) i;
-                down = agree x y (λ z. fresh z .down) i;
-                up = agree x y (λ z. fresh z .up) i;
-                sums = right-unique _ _ f a (appEnd (boardOf a b part0 part1)) (fresh x .sums) (fresh y .sums) i;
-              };
+          session =
+              fresh x .session
+              ∙ ap (λ (s : Sums). freshOf (boardOf a b part0 part1) s)
+              (right-unique _ _ f a (appEnd (boardOf a b part0 part1)) (fresh x .sums) (fresh y .sums))
+              ∙ sym (fresh y .session);
         }
 
     begin-refused : (AllowedStart f a b → ⊥) → BeginSame
@@ -173,4 +171,22 @@ demands-determine start step meets f a b part0 part1 =
     record {
       begins = begin-same theirs ours f a b part0 part1;
       goes-on = goes-on-same theirs ours f a b part0 part1;
+    }
+
+pub demands-determine-anywhere : DetermineAnywhere
+unfolding next
+demands-determine-anywhere start step meets at c =
+    let theirs : Loader = record { start = start; step = step; meets = meets } in
+    let ours : Loader = record { start = startOutcome; step = stepOf; meets = meets-demands } in
+    let a = at .session .board .a .0 in
+    let e = appEnd (at .session .board) in
+    record {
+      but-sums = same-but-sums theirs ours at c;
+      sums-too =
+          λ right.
+          same-call theirs ours at c
+          (λ same.
+          right-unique (next step at c .session .sums) (next stepOf at c .session .sums) (next stepOf at c .flash) a e
+          (subst (λ (g : List ℕ). Right (next step at c .session .sums) g a e) same (meets .sums-stay at c right))
+          (meets-demands .sums-stay at c right));
     }

@@ -31,7 +31,7 @@ use Rattle.loader.specs.Upload.{uploadEnds, uploadingAt, uploadedOf, uploadOf}
 use Rattle.loader.specs.Step.{freshStart, startOutcome, stepOf}
 use Rattle.demands.specs.Calls.{begun, Call, Site, called, next, after}
 use Rattle.demands.specs.One.{Untouched, AllowedStart}
-use Rattle.demands.specs.Three.{Held, History}
+use Rattle.demands.specs.Three.{SumsStay, Held, History}
 use Rattle.demands.proofs.Ways.{every-way}
 use Rattle.demands.proofs.OneOutside.{outside-holds, piece-place}
 use Rattle.demands.proofs.OneFit.{stays-fit-holds, starts-fit-holds, started}
@@ -108,9 +108,7 @@ board-stays at c =
     })
 
 -- a call keeps the sums right
-sums-stay :
-    (at : Site) (c : Call) → Summed (at .session) (at .flash)
-    → Right (next stepOf at c .session .sums) (next stepOf at c .flash) (at .session .board .a .0) (appEnd (at .session .board))
+pub sums-stay : SumsStay stepOf
 unfolding next called storedOf infoOf binOf movedTo stallOf unfitOf faultOf resetOf freshOf polled getstatusOf getstateOf queryOf
     answered uploadOf uploadedOf uploadingAt
 sums-stay at c right =

@@ -18,6 +18,7 @@ use Rattle.session.specs.Session.{appEnd, streamLength, upOf}
 use Rattle.session.specs.declared.Board.{Board}
 use Rattle.session.specs.declared.Phase.{Phase}
 use Rattle.session.specs.declared.Upload.{Upload}
+use Rattle.session.specs.declared.Session.{Session}
 use Rattle.session.proofs.Laws.{facts-fit}
 use Rattle.request.specs.Request.{setupOf, dataAsked}
 use Rattle.request.specs.declared.Request.{Request}
@@ -215,7 +216,9 @@ programs-not h = stores (doesNothingAt 1) h refl
 closes-not : (held : List ℕ) → Led ProgramAt (allAtClose held) → ⊥
 unfolding called begun allAtClose
 closes-not held h =
-    let leads : called stepOf erased-site prog-call .session .phase .after .0 ≡ 5 = programs (allAtClose held) h .enters .leads in
+    let leads : called stepOf erased-site prog-call .session .phase .after .0 ≡ 5 =
+    ap (λ (s : Session). s .phase .after .0) (programs (allAtClose held) h .session)
+    in
     stores (allAtClose held) h (rw leads)
 
 -- a splice is there up to its end, also where it doesn't fit
@@ -239,7 +242,9 @@ module _
   stored : called (allAtFirst image) erased-site prog-call .flash ≡ spliced ours 1024 image
   unfolding called allAtFirst
   stored =
-      let leads : called stepOf erased-site prog-call .session .phase .after .0 ≡ 5 = programs (allAtFirst image) h .enters .leads in
+      let leads : called stepOf erased-site prog-call .session .phase .after .0 ≡ 5 =
+      ap (λ (s : Session). s .phase .after .0) (programs (allAtFirst image) h .session)
+      in
       rw (idle smallFlash small-long, leads)
 
   first-not : ⊥
@@ -289,10 +294,10 @@ module _ (invented : ℕ → ℕ) where
       further =
           let done = rows .upload-goes-on 1024 place (asks-there calls) (now .1) (omega arith) in
           let up =
-          done .upload
+          ap (λ (s : Session). s .up) (done .session)
           ∙ ap (λ (u : Upload). upOf (u .choice) (u .«prefix») (u .first .0) (u .len) (place + min 1024 (streamLength u - place))) (now .0)
           in
-          (up, inr (done .enters .state, sym (ap (λ (u : Upload). u .place) up)))
+          (up, inr (ap (λ (s : Session). s .phase .state .0) (done .session), sym (ap (λ (u : Upload). u .place) up)))
 
     at-first : Uploading (site []) 0
     unfolding after begun appEnd

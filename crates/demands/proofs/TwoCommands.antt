@@ -20,21 +20,21 @@ use Rattle.command.specs.Download.{progOf, readOf, checkOf, eraseOf, infoOf, pr
 use Rattle.loader.specs.Step.{stepOf, settled}
 use Rattle.demands.specs.Calls.{Call, Site}
 use Rattle.demands.specs.Asked.{Asks}
-use Rattle.demands.specs.Two.{Moves}
+use Rattle.demands.specs.Two.{Hands, Moves}
 use Rattle.demands.specs.TwoCommands.{Commanded, Named, Counted, Legal, Blank, NotBlank, Chooses, NoCommand, Commands}
 use Rattle.demands.proofs.Bytes.{bytes-erased, not-erased}
 use Rattle.demands.proofs.TwoForms.{asks-brings}
-use Rattle.demands.proofs.TwoOutcomes.{so-moves, so-chooses}
+use Rattle.demands.proofs.TwoOutcomes.{so-moves, so-hands}
 use Rattle.demands.proofs.TwoDownloads.{legal-in, illegal-out, piece-leaves, command-leaves, no-command-leaves, legal-near}
 use Rattle.demands.proofs.TwoWorks.{legal-fits}
 
 module _ (at : Site) (c : Call) (block len : ℕ) (k : Commanded at c 2 8) (range : Named c block len) where
-  read-done : Legal at block len → Chooses stepOf at c 0 3 0 (at .session .up .«prefix») block len
+  read-done : Legal at block len → Chooses stepOf at c 0 (at .session .up .«prefix») block len
   unfolding byNumber settled carriedOut readOf movedTo
   read-done legal =
-      so-chooses at c Answer.Taken 3 0 (at .session .up .«prefix») block len _ refl refl refl refl refl
+      so-hands at c Answer.Taken [] _ (at .flash)
       (command-leaves at c 2 8 k (omega arith) (omega arith) (omega arith) (inr refl)
-      ∙ rw (range .block-is, range .len-is, legal-in at block len (legal-near at c (k .asks .prepared)) legal))
+      ∙ rw (range .block-is, range .len-is, legal-in at block len (legal-near at c (k .asks .prepared)) legal)) refl
 
   read-range : (Legal at block len → ⊥) → Moves stepOf at c 3 [] 10 0x08
   unfolding byNumber settled carriedOut readOf faultOf
@@ -85,39 +85,35 @@ erase-range at c block count k range none =
     ∙ rw (range .block-is, range .count-is, illegal-out at block (startOf count) none))
 
 module _ (at : Site) (c : Call) where
-  info-done : Commanded at c 5 8 → Chooses stepOf at c 0 3 1 (at .session .up .«prefix») (at .session .up .first .0) (at .session .up .len)
+  info-done : Commanded at c 5 8 → Chooses stepOf at c 1 (at .session .up .«prefix») (at .session .up .first .0) (at .session .up .len)
   unfolding byNumber settled carriedOut infoOf movedTo
   info-done k =
-      so-chooses at c Answer.Taken 3 1 (at .session .up .«prefix») (at .session .up .first .0) (at .session .up .len) _
-      refl refl refl refl refl
-      (command-leaves at c 5 8 k (omega arith) (omega arith) (omega arith) (inr refl))
+      so-hands at c Answer.Taken [] _ (at .flash)
+      (command-leaves at c 5 8 k (omega arith) (omega arith) (omega arith) (inr refl)) refl
 
   bin-off :
       Commanded at c 6 8 → (getD (c .bytes) 1 0 ≡ 0 → ⊥)
-      → Chooses stepOf at c 0 3 (at .session .up .choice) 0 (at .session .up .first .0) (at .session .up .len)
+      → Chooses stepOf at c (at .session .up .choice) 0 (at .session .up .first .0) (at .session .up .len)
   unfolding byNumber settled carriedOut binOf prefixFor movedTo
   bin-off k ne =
-      so-chooses at c Answer.Taken 3 (at .session .up .choice) 0 (at .session .up .first .0) (at .session .up .len) _
-      refl refl refl refl refl
-      (command-leaves at c 6 8 k (omega arith) (omega arith) (omega arith) (inr refl) ∙ rw (ne-eqb (getD (c .bytes) 1 0) 0 ne))
+      so-hands at c Answer.Taken [] _ (at .flash)
+      (command-leaves at c 6 8 k (omega arith) (omega arith) (omega arith) (inr refl) ∙ rw (ne-eqb (getD (c .bytes) 1 0) 0 ne)) refl
 
   bin-on :
       Commanded at c 6 8 → getD (c .bytes) 1 0 ≡ 0
-      → Chooses stepOf at c 0 3 (at .session .up .choice) 1 (at .session .up .first .0) (at .session .up .len)
+      → Chooses stepOf at c (at .session .up .choice) 1 (at .session .up .first .0) (at .session .up .len)
   unfolding byNumber settled carriedOut binOf prefixFor movedTo
   bin-on k e =
-      so-chooses at c Answer.Taken 3 (at .session .up .choice) 1 (at .session .up .first .0) (at .session .up .len) _
-      refl refl refl refl refl
-      (command-leaves at c 6 8 k (omega arith) (omega arith) (omega arith) (inr refl) ∙ rw (eq-eqb (getD (c .bytes) 1 0) 0 e))
+      so-hands at c Answer.Taken [] _ (at .flash)
+      (command-leaves at c 6 8 k (omega arith) (omega arith) (omega arith) (inr refl) ∙ rw (eq-eqb (getD (c .bytes) 1 0) 0 e)) refl
 
   reset-done :
       Commanded at c 7 8
-      → Chooses stepOf at c 4 2 0 1 (at .session .board .a .0) ((appEnd (at .session .board) - at .session .board .a .0) * 1024)
-  unfolding byNumber settled carriedOut resetOf freshOf wholeUpload
+      → Hands stepOf at c 4 [] (freshOf (at .session .board) (at .session .sums))
+  unfolding byNumber settled carriedOut resetOf
   reset-done k =
-      so-chooses at c Answer.ResetAsked 2 0 1 (at .session .board .a .0) ((appEnd (at .session .board) - at .session .board .a .0) * 1024) _
-      refl refl refl refl refl
-      (command-leaves at c 7 8 k (omega arith) (omega arith) (omega arith) (inr refl))
+      so-hands at c Answer.ResetAsked [] _ (at .flash)
+      (command-leaves at c 7 8 k (omega arith) (omega arith) (omega arith) (inr refl)) refl
 
   no-command : (code n : ℕ) → Commanded at c code n → NoCommand code n → Moves stepOf at c 3 [] 10 0x0B
   unfolding faultOf

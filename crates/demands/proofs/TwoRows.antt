@@ -24,7 +24,7 @@ use Rattle.demands.specs.Calls.{Call, Site, called}
 use Rattle.demands.specs.Asked.{stateOf, Prepared, Asks, NoRequest}
 use Rattle.demands.specs.Two.{Unchanged, Moves, Reports, StartsAt, nextBytes, Uploads, Rows}
 use Rattle.demands.proofs.TwoForms.{asks-served, asks-stalled, asks-brings}
-use Rattle.demands.proofs.TwoOutcomes.{so-answers, so-session, so-flash, so-enters, so-unchanged, so-moves}
+use Rattle.demands.proofs.TwoOutcomes.{so-answers, so-session, so-flash, so-hands, so-unchanged, so-moves}
 use Rattle.demands.proofs.TwoDownloads.{piece-leaves}
 use Rattle.demands.proofs.Left.{withFlash}
 
@@ -90,15 +90,7 @@ module _ (at : Site) (c : Call) (n place : ℕ) (k : Asks at c Request.Upload n)
       (ap₂ (λ (p m : ℕ). leaves (outcome Answer.Taken (length b) (uploadingAt s (p + m))) (at .flash) (b ++ drop (length b) (c .reply)))
       (place-is e) count-is)
       in
-      let session = so-session at c Answer.Taken b t (at .flash) l in
-      record {
-        answers = so-answers at c Answer.Taken b t (at .flash) l;
-        enters = so-enters at c Answer.Taken b t (at .flash) l refl;
-        none-loading = ap (λ (x : Session). x .down) session;
-        upload = ap (λ (x : Session). x .up) session;
-        sums = ap (λ (x : Session). x .sums) session;
-        flash = so-flash at c Answer.Taken b t (at .flash) l;
-      }
+      so-hands at c Answer.Taken b t (at .flash) l refl
 
 -- GETSTATUS
 module _ (at : Site) (c : Call) (k : Asks at c Request.GetStatus 6) where
@@ -116,15 +108,7 @@ module _ (at : Site) (c : Call) (k : Asks at c Request.GetStatus 6) where
       leaves (outcome Answer.Taken 6 (withPhase s (phaseOf m status 2))) (at .flash)
       ((status ∷ 0 ∷ 0 ∷ 0 ∷ m ∷ 0 ∷ []) ++ drop 6 (c .reply))) e
       in
-      let session = so-session at c Answer.Taken b t (at .flash) l in
-      record {
-        answers = so-answers at c Answer.Taken b t (at .flash) l;
-        enters = so-enters at c Answer.Taken b t (at .flash) l refl;
-        download = ap (λ (x : Session). x .down) session;
-        upload = ap (λ (x : Session). x .up) session;
-        sums = ap (λ (x : Session). x .sums) session;
-        flash = so-flash at c Answer.Taken b t (at .flash) l;
-      }
+      so-hands at c Answer.Taken b t (at .flash) l refl
 
   from-sync : stateOf at ≡ 3 → Reports stepOf at c (at .session .phase .after .0)
   unfolding entered

@@ -25,6 +25,7 @@ module _ (flash : List ℕ) (a b part0 part1 : ℕ) where
         down = refl;
         up = refl;
         sums = fresh-right flash a (appEnd (boardOf a b part0 part1));
+        session = refl;
       })
 
   refused : (AllowedStart flash a b → ⊥) → Zeros (startOutcome flash a b part0 part1)

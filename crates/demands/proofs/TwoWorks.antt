@@ -12,25 +12,34 @@ use Rattle.flash.proofs.Laws.{spliced-length, spliced-other}
 use Rattle.sums.specs.Sum.{refreshed}
 use Rattle.sums.specs.declared.Sums.{Sums}
 use Rattle.session.specs.Codes.{idle, downloadIdle}
-use Rattle.session.specs.Session.{appEnd, downOf, noDownload, withSums}
+use Rattle.session.specs.Session.{appEnd, phaseOf, downOf, noDownload, withSums}
 use Rattle.session.specs.Rules.{running}
 use Rattle.session.specs.declared.Session.{Session}
 use Rattle.session.proofs.Laws.{end-in-flash}
 use Rattle.request.specs.declared.Request.{Request}
 use Rattle.moves.specs.declared.Answer.{Answer}
 use Rattle.moves.specs.Answers.{leaves}
-use Rattle.moves.specs.Moves.{movedTo, toSync, takenOf}
+use Rattle.moves.specs.Moves.{movedTo, rewound, toSync, takenOf}
 use Rattle.jobs.specs.Job.{sumsAfter, carriedOut, wipeDone, sumsWiped}
 use Rattle.command.specs.Download.{progOf, eraseOf, byNumber, pieceOf}
 use Rattle.loader.specs.Step.{withReply, stepOf, settled}
 use Rattle.demands.specs.Calls.{Call, Site, called}
 use Rattle.demands.specs.Asked.{Prepared, Asks}
+use Rattle.demands.specs.Two.{goneTo}
+use Rattle.session.specs.declared.Upload.{Upload}
 use Rattle.demands.specs.TwoCommands.{Commanded, Named, Counted, Legal, Blank, EraseDone, EraseWorks, BytesDone, ProgramWorks}
 use Rattle.demands.proofs.Bytes.{spliced-byte, erased-length, erased-byte, erased-other, bytes-erased}
 use Rattle.demands.proofs.TwoForms.{asks-brings}
-use Rattle.demands.proofs.TwoOutcomes.{so-answers, so-session, so-flash, so-enters, at-start}
+use Rattle.demands.proofs.TwoOutcomes.{so-answers, so-session, so-flash, at-start}
 use Rattle.demands.proofs.TwoDownloads.{legal-in, command-leaves, piece-leaves, legal-near}
 use Rattle.demands.proofs.Left.{storedOf, bytes-finished}
+
+-- a session that is some other one but for the sums, where the upload is at its start
+but-sums :
+    (h t : Session) (of : Upload → Session) (u v : Upload) → h ≡ withSums (of u) (t .sums) → u ≡ v
+    → h ≡ withSums (of v) (h .sums)
+but-sums h t of u v e same =
+    e ∙ ap (λ (x : Upload). withSums (of x) (t .sums)) same ∙ ap (λ (s : Session). withSums (of v) (s .sums)) (sym e)
 
 -- a legal range lies in flash
 pub legal-fits : (at : Site) (c : Call) (block len : ℕ) → Prepared at c → Legal at block len → startOf block + len ≤ length (at .flash)
@@ -63,9 +72,9 @@ module _
       let flash = so-flash at c Answer.Taken [] t g erase-leaves in
       record {
         answers = so-answers at c Answer.Taken [] t g erase-leaves;
-        enters = so-enters at c Answer.Taken [] t g erase-leaves refl;
-        no-download = ap (λ (x : Session). x .down) session;
-        upload-kept = ap (λ (x : Session). x .up) session ∙ at-start at c (k .asks .prepared) (λ e. omega (arith, e, k .idle));
+        session =
+            but-sums _ t (goneTo (at .session) (phaseOf 3 0 2) (downOf 0 0)) (rewound (at .session .up)) (at .session .up) session
+            (at-start at c (k .asks .prepared) (λ e. omega (arith, e, k .idle)));
         flash =
             record {
               as-long = ap length flash ∙ erased-length f block count fits;
@@ -101,9 +110,9 @@ module _
       let flash = so-flash at c Answer.Taken [] written g e in
       record {
         answers = so-answers at c Answer.Taken [] written g e;
-        enters = so-enters at c Answer.Taken [] written g e refl;
-        download = ap (λ (x : Session). x .down) session;
-        upload-kept = ap (λ (x : Session). x .up) session ∙ at-start at c k ne;
+        session =
+            but-sums _ written (goneTo (at .session) (phaseOf 3 0 5) (downOf (place + length bytes) (len - length bytes)))
+            (rewound (at .session .up)) (at .session .up) session (at-start at c k ne);
         flash =
             record {
               as-long = ap length flash ∙ spliced-length (at .flash) place bytes fits;

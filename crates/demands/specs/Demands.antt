@@ -3,7 +3,7 @@ use Rattle.demands.specs.Calls.{Start, Step}
 use Rattle.demands.specs.One.{Outside, Refused, UnfitExactly, StalledExactly, StaysFit, StartsFit, RefusedStart}
 use Rattle.demands.specs.Two.{Rows, Starts}
 use Rattle.demands.specs.TwoCommands.{EraseWorks, ProgramWorks, Commands}
-use Rattle.demands.specs.Three.{History, OnlyNamed}
+use Rattle.demands.specs.Three.{History, SumsStay, OnlyNamed}
 use Rattle.demands.specs.ReadBack.{ReadBack}
 
 -- a loader that meets the demands
@@ -25,4 +25,5 @@ pub record MeetsDemands (start : Start) (step : Step) : Type 0 where
   pub read-back : ReadBack step
   -- demand 3
   pub history : History start step
+  pub sums-stay : SumsStay step
   pub only-named : OnlyNamed start step

@@ -5,7 +5,10 @@ use mathlib.Core.Logic.{_⊎_}
 use mathlib.Core.Path.{_≡_}
 use lib.ListN.{length, take, drop, replicate}
 use Rattle.sums.specs.Sum.{mostBlocks, Right}
-use Rattle.session.specs.Session.{boardOf, appEnd, phaseOf, downOf, upOf, streamLength}
+use Rattle.session.specs.Session.{boardOf, appEnd, phaseOf, downOf, upOf, streamLength, withPhase, withDown, withUp, freshOf}
+use Rattle.session.specs.declared.Phase.{Phase}
+use Rattle.session.specs.declared.Download.{Download}
+use Rattle.session.specs.declared.Upload.{Upload}
 use Rattle.session.specs.declared.Session.{Session}
 use Rattle.request.specs.declared.Request.{Request}
 use Rattle.stream.specs.Stream.{streamOf}
@@ -24,6 +27,14 @@ StartsAt at place =
 abbrev pub nextBytes : Site → ℕ → ℕ → List ℕ
 nextBytes at place n = take n (drop place (streamOf (at .session .board) (at .session .up) (at .flash)))
 
+-- a session with another state, status and state after sync, another download and another upload; all else stays
+abbrev pub goneTo : Session → Phase → Download → Upload → Session
+goneTo s phase down up = withUp (withDown (withPhase s phase) down) up
+
+-- an upload at a place of its stream; choice, range and prefix flag stay
+abbrev pub atPlace : Upload → ℕ → Upload
+atPlace up place = upOf (up .choice) (up .«prefix») (up .first .0) (up .len) place
+
 module _ (step : Step) where
   -- the session that a call hands back
   abbrev pub handed : Site → Call → Session
@@ -35,51 +46,34 @@ module _ (step : Step) where
     pub count : called step at c .count ≡ length bytes
     pub reply : called step at c .reply ≡ bytes ++ drop (length bytes) (c .reply)
 
-  -- the session handed back: its state, its status and its state after sync; A, B and the part numbers are kept
-  pub record Enters (at : Site) (c : Call) (n status after : ℕ) : Type 0 where
-    pub state : handed at c .phase .state .0 ≡ n
-    pub says : handed at c .phase .status .0 ≡ status
-    pub leads : handed at c .phase .after .0 ≡ after
-    pub board : handed at c .board ≡ at .session .board
+  -- a call that leaves the flash alone: the answer's number, the reply bytes, and the session handed back
+  pub record Hands (at : Site) (c : Call) (number : ℕ) (bytes : List ℕ) (t : Session) : Type 0 where
+    pub answers : Answers at c number bytes
+    pub session : handed at c ≡ t
+    pub flash : called step at c .flash ≡ at .flash
 
   -- nothing changes but the reply
-  pub record Unchanged (at : Site) (c : Call) (number : ℕ) (bytes : List ℕ) : Type 0 where
-    pub answers : Answers at c number bytes
-    pub session : handed at c ≡ at .session
-    pub flash : called step at c .flash ≡ at .flash
+  abbrev pub Unchanged : Site → Call → ℕ → List ℕ → Type 0
+  Unchanged at c number bytes = Hands at c number bytes (at .session)
 
   -- the session goes to a state with a status: a running download is dropped, an upload will start at its first byte, and choice, range
-  -- and prefix flag, the sums and the flash stay
-  pub record Moves (at : Site) (c : Call) (number : ℕ) (bytes : List ℕ) (n status : ℕ) : Type 0 where
-    pub answers : Answers at c number bytes
-    pub enters : Enters at c n status 2
-    pub no-download : handed at c .down ≡ downOf 0 0
-    pub upload :
-        handed at c .up
-        ≡ upOf (at .session .up .choice) (at .session .up .«prefix») (at .session .up .first .0) (at .session .up .len) 0
-    pub sums : handed at c .sums ≡ at .session .sums
-    pub flash : called step at c .flash ≡ at .flash
+  -- and prefix flag and all else stay
+  abbrev pub Moves : Site → Call → ℕ → List ℕ → ℕ → ℕ → Type 0
+  Moves at c number bytes n status =
+      Hands at c number bytes (goneTo (at .session) (phaseOf n status 2) (downOf 0 0) (atPlace (at .session .up) 0))
 
   -- GETSTATUS answers status, three zero bytes, the state it now enters, and zero
-  pub record Reports (at : Site) (c : Call) (entered : ℕ) : Type 0 where
-    pub answers : Answers at c 0 (at .session .phase .status .0 ∷ 0 ∷ 0 ∷ 0 ∷ entered ∷ 0 ∷ [])
-    pub enters : Enters at c entered (at .session .phase .status .0) 2
-    pub download : handed at c .down ≡ at .session .down
-    pub upload : handed at c .up ≡ at .session .up
-    pub sums : handed at c .sums ≡ at .session .sums
-    pub flash : called step at c .flash ≡ at .flash
+  abbrev pub Reports : Site → Call → ℕ → Type 0
+  Reports at c entered =
+      Hands at c 0 (at .session .phase .status .0 ∷ 0 ∷ 0 ∷ 0 ∷ entered ∷ 0 ∷ [])
+      (withPhase (at .session) (phaseOf entered (at .session .phase .status .0) 2))
 
   -- an upload stays in state 9, behind what was answered
-  pub record Uploads (at : Site) (c : Call) (place n : ℕ) : Type 0 where
-    pub answers : Answers at c 0 (nextBytes at place n)
-    pub enters : Enters at c 9 0 2
-    pub none-loading : handed at c .down ≡ downOf 0 0
-    pub upload :
-        handed at c .up
-        ≡ upOf (at .session .up .choice) (at .session .up .«prefix») (at .session .up .first .0) (at .session .up .len)
-        (place + min n (streamLength (at .session .up) - place))
-    pub sums : handed at c .sums ≡ at .session .sums
-    pub flash : called step at c .flash ≡ at .flash
+  abbrev pub Uploads : Site → Call → ℕ → ℕ → Type 0
+  Uploads at c place n =
+      Hands at c 0 (nextBytes at place n)
+      (goneTo (at .session) (phaseOf 9 0 2) (downOf 0 0)
+      (atPlace (at .session .up) (place + min n (streamLength (at .session .up) - place))))
 
   -- the requests row by row, DNLOAD with data apart: what is so at any site for any call
   pub record RowsAt (at : Site) (c : Call) : Type 0 where
@@ -122,6 +116,7 @@ pub record Fresh (flash : List ℕ) (a b part0 part1 : ℕ) (o : Told) : Type 0 
   pub down : o .session .down ≡ downOf 0 0
   pub up : o .session .up ≡ upOf 0 1 a ((appEnd (boardOf a b part0 part1) - a) * 1024) 0
   pub sums : Right (o .session .sums) flash a (appEnd (boardOf a b part0 part1))
+  pub session : o .session ≡ freshOf (boardOf a b part0 part1) (o .session .sums)
 
 -- a refused start: answer 2 and a session of zeros
 pub record Zeros (o : Told) : Type 0 where

@@ -5,12 +5,12 @@ use mathlib.Core.Logic.{_⊎_}
 use mathlib.Core.Path.{_≡_}
 use lib.ListN.{length, getD, drop}
 use Rattle.flash.specs.Flash.{startOf}
-use Rattle.session.specs.Session.{appEnd, downOf, upOf}
+use Rattle.session.specs.Session.{appEnd, phaseOf, downOf, upOf, withSums, freshOf}
 use Rattle.numbers.specs.Numbers.{wordAt, longAt}
 use Rattle.request.specs.declared.Request.{Request}
 use Rattle.demands.specs.Calls.{Step, Call, Site, called}
 use Rattle.demands.specs.Asked.{stateOf, Prepared, Allowed, Asks, NoRequest}
-use Rattle.demands.specs.Two.{handed, Answers, Enters, Moves}
+use Rattle.demands.specs.Two.{goneTo, handed, Answers, Hands, Moves}
 
 -- a DNLOAD of n bytes in state 2: its first byte is the command's number
 pub record Commanded (at : Site) (c : Call) (code n : ℕ) : Type 0 where
@@ -57,9 +57,9 @@ module _ (step : Step) where
   -- a legal ERASE is taken, goes to 3 and then to 2, and the blocks hold 0xFF
   pub record EraseDone (at : Site) (c : Call) (block count : ℕ) : Type 0 where
     pub answers : Answers step at c 0 []
-    pub enters : Enters step at c 3 0 2
-    pub no-download : handed step at c .down ≡ downOf 0 0
-    pub upload-kept : handed step at c .up ≡ at .session .up
+    pub session :
+        handed step at c
+        ≡ withSums (goneTo (at .session) (phaseOf 3 0 2) (downOf 0 0) (at .session .up)) (handed step at c .sums)
     pub flash : Rewritten (at .flash) (called step at c .flash) (startOf block) (startOf count) (λ i. 0xFF)
 
   abbrev pub EraseAt : Site → Call → Type 0
@@ -74,9 +74,11 @@ module _ (step : Step) where
   -- have moved on
   pub record BytesDone (at : Site) (c : Call) (place len : ℕ) (bytes : List ℕ) : Type 0 where
     pub answers : Answers step at c 0 []
-    pub enters : Enters step at c 3 0 5
-    pub download : handed step at c .down ≡ downOf (place + length bytes) (len - length bytes)
-    pub upload-kept : handed step at c .up ≡ at .session .up
+    pub session :
+        handed step at c
+        ≡ withSums
+        (goneTo (at .session) (phaseOf 3 0 5) (downOf (place + length bytes) (len - length bytes)) (at .session .up))
+        (handed step at c .sums)
     pub flash : Rewritten (at .flash) (called step at c .flash) place (length bytes) (λ i. getD bytes i 0)
 
   -- PROG with a legal, erased range and not more data than the length, which stands behind its eight bytes; and a piece of data in state
@@ -93,38 +95,33 @@ module _ (step : Step) where
   ProgramWorks = (at : Site) (c : Call) → ProgramAt at c
 
   -- the session goes to a state with another choice, prefix flag or read range, and no upload or download runs
-  pub record Chooses (at : Site) (c : Call) (number n choice flag first len : ℕ) : Type 0 where
-    pub answers : Answers step at c number []
-    pub enters : Enters step at c n 0 2
-    pub no-download : handed step at c .down ≡ downOf 0 0
-    pub upload : handed step at c .up ≡ upOf choice flag first len 0
-    pub sums : handed step at c .sums ≡ at .session .sums
-    pub flash : called step at c .flash ≡ at .flash
+  abbrev pub Chooses : Site → Call → ℕ → ℕ → ℕ → ℕ → Type 0
+  Chooses at c choice flag first len =
+      Hands step at c 0 [] (goneTo (at .session) (phaseOf 3 0 2) (downOf 0 0) (upOf choice flag first len 0))
 
   -- the other commands, and the faults: what is so at any site for any call
   pub record CommandsAt (at : Site) (c : Call) : Type 0 where
     -- READ chooses the flash stream and its range
     pub read :
         (block len : ℕ) → Commanded at c 2 8 → Named c block len → Legal at block len
-        → Chooses at c 0 3 0 (at .session .up .«prefix») block len
+        → Chooses at c 0 (at .session .up .«prefix») block len
     -- CHECK faults unless all erased
     pub check :
         (block len : ℕ) → Commanded at c 3 8 → Named c block len → Legal at block len → Blank at block len → Moves step at c 0 [] 3 0
     -- INFO chooses the info bytes
     pub info :
         Commanded at c 5 8
-        → Chooses at c 0 3 1 (at .session .up .«prefix») (at .session .up .first .0) (at .session .up .len)
+        → Chooses at c 1 (at .session .up .«prefix») (at .session .up .first .0) (at .session .up .len)
     -- BIN: byte 1 not zero: no prefix; zero: prefix
     pub bin-off :
         Commanded at c 6 8 → (getD (c .bytes) 1 0 ≡ 0 → ⊥)
-        → Chooses at c 0 3 (at .session .up .choice) 0 (at .session .up .first .0) (at .session .up .len)
+        → Chooses at c (at .session .up .choice) 0 (at .session .up .first .0) (at .session .up .len)
     pub bin-on :
         Commanded at c 6 8 → getD (c .bytes) 1 0 ≡ 0
-        → Chooses at c 0 3 (at .session .up .choice) 1 (at .session .up .first .0) (at .session .up .len)
+        → Chooses at c (at .session .up .choice) 1 (at .session .up .first .0) (at .session .up .len)
     -- RESET is answer 4 and as fresh: state 2, prefix on, read range all of the application
     pub reset :
-        Commanded at c 7 8
-        → Chooses at c 4 2 0 1 (at .session .board .a .0) ((appEnd (at .session .board) - at .session .board .a .0) * 1024)
+        Commanded at c 7 8 → Hands step at c 4 [] (freshOf (at .session .board) (at .session .sums))
     -- 0x0B
     pub no-command : (code n : ℕ) → Commanded at c code n → NoCommand code n → Moves step at c 3 [] 10 0x0B
     -- 0x08: range empty or not wholly in the application, of PROG, READ, CHECK and ERASE
