@@ -18,8 +18,9 @@ pub const PRODUCT: u16 = 0x0001;
 
 /// The part numbers that the stand-in starts the loader with.
 const PARTS: (u32, u32) = (0x4D4C_0001, 0x4D4C_0002);
-/// No run takes so long.
+/// No run takes so long, nor so many bytes of trace.
 const PATIENCE: Duration = Duration::from_secs(60);
+const ENOUGH: u64 = 1_000_000;
 
 pub struct Bench {
     folder: PathBuf,
@@ -188,7 +189,7 @@ impl Bench {
                 return Ok(Some(status.code().unwrap_or(-1)));
             }
             let traced = fs::metadata(self.file("trace")).map_or(0, |seen| seen.len());
-            let late = begun.elapsed() > PATIENCE;
+            let late = begun.elapsed() > PATIENCE || traced > ENOUGH;
             if late || until.is_some_and(|bytes| traced >= bytes) {
                 let _ = child.kill();
                 let _ = child.wait();
@@ -242,7 +243,8 @@ impl Bench {
             if outcome.answer == answer::RESET_ASKED {
                 self.restarted();
             }
-            self.transfers += 1;
+            // How far a client came that was stopped is not the same each time.
+            self.transfers += usize::from(!stopped);
             rest = behind;
         }
         match rest {

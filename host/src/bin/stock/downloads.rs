@@ -4,7 +4,10 @@ use crate::bench::{erased, written, Bench, Left};
 use crate::files::{as_the_package_does, image, prefixed, whole_file};
 use mullirim_host::second::{state, status, BLOCK};
 
-const DONE: [&str; 2] = ["dfuIDLE, status(0)", "Done!"];
+/// That it says "Done!" is not enough; it does so after an error too.
+const DONE: [&str; 1] = [
+    "Download done.\nDFU state(2) = dfuIDLE, status(0) = No error condition is present\nDone!\n",
+];
 
 /// Sends a file, and holds what it leaves to this image at this block.
 fn carried_out(
