@@ -31,6 +31,7 @@ pub struct Bench {
     pub session: Session,
     runs: usize,
     transfers: usize,
+    all_said: String,
 }
 
 /// What a client said. It has no exit status where it was stopped.
@@ -78,6 +79,7 @@ impl Bench {
             session: Session::zeros(),
             runs: 0,
             transfers: 0,
+            all_said: String::new(),
         })
     }
 
@@ -179,6 +181,7 @@ impl Bench {
         let exit = self.wait(child, until)?;
         self.runs += 1;
         let words = String::from_utf8_lossy(&self.read("said")?).into_owned();
+        self.all_said.push_str(&words);
         Ok(Run { exit, words })
     }
 
@@ -189,13 +192,12 @@ impl Bench {
                 return Ok(Some(status.code().unwrap_or(-1)));
             }
             let traced = fs::metadata(self.file("trace")).map_or(0, |seen| seen.len());
-            let late = begun.elapsed() > PATIENCE || traced > ENOUGH;
-            if late || until.is_some_and(|bytes| traced >= bytes) {
+            if begun.elapsed() > PATIENCE || traced > until.unwrap_or(ENOUGH) {
                 let _ = child.kill();
                 let _ = child.wait();
-                return match late {
-                    true => Err("the client does not end".to_string()),
-                    false => Ok(None),
+                return match until {
+                    Some(bytes) if traced > bytes => Ok(None),
+                    _ => Err("the client does not end".to_string()),
                 };
             }
             sleep(Duration::from_millis(1));
@@ -274,6 +276,11 @@ impl Bench {
             true => Ok(()),
             false => Err("the sums are not those of the flash".to_string()),
         }
+    }
+
+    /// Whether a client said all of this, in whatever run.
+    pub fn was_said(&self, words: &str) -> bool {
+        self.all_said.contains(words)
     }
 
     pub fn tally(&self) -> String {

@@ -35,7 +35,7 @@ pub fn odd_lengths(bench: &mut Bench) -> Result<(), String> {
         1, 2, 7, 8, 9, 55, 56, 57, 63, 64, 65, 1_015, 1_016, 1_017, 1_023, 1_024, 1_025, 2_000,
         2_039, 2_040, 2_041, 10_007,
     ];
-    let sizes = ["1024", "64", "1023", "1000", "65", "512"];
+    let sizes = ["64", "1023", "8", "1000", "65", "512"];
     for (number, length) in lengths.into_iter().enumerate() {
         let (block, image) = (16 + number as u32, image(length));
         as_the_package_does(bench, block, &image)?;

@@ -149,6 +149,14 @@ pub fn restarts(bench: &mut Bench) -> Result<(), String> {
     let run = bench.command(&["reset"])?;
     let left = Left {
         says: &["the board restarts"],
+        ..Left::done(flash.clone())
+    };
+    bench.hold(&run, &left)?;
+    bench.lay("image", &header(command::RESET, 0, 0))?;
+    let run = bench.dfu_util(&["-D", "image"])?;
+    let left = Left {
+        exit: Some(74),
+        says: &["Error during download get_status (LIBUSB_ERROR_NO_DEVICE)"],
         ..Left::done(flash)
     };
     bench.hold(&run, &left)

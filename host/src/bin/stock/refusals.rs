@@ -162,33 +162,61 @@ pub fn damaged_suffix(bench: &mut Bench) -> Result<(), String> {
     refused(bench, &file, status::ADDRESS, &says, flash)
 }
 
-/// The suffix names another product, or the client is told to look for one.
-/// Told nothing, it takes any board for the right one.
-pub fn another_board(bench: &mut Bench) -> Result<(), String> {
-    let flash = erased(16, 64);
-    bench.power_on(16, flash.clone())?;
-    bench.lay(
-        "image",
-        &suffixed(&prefixed(16, &image(99)), VENDOR, 0x0002),
-    )?;
+/// An image without a suffix that ends as one would: the client keeps these 16
+/// bytes to itself, and the loader misses them.
+pub fn looks_suffixed(bench: &mut Bench) -> Result<(), String> {
+    let sent = [&header(command::PROG, 16, 100 + 16)[..], &image(100)].concat();
+    bench.power_on(16, erased(16, 64))?;
+    bench.lay("image", &suffixed(&sent, VENDOR, PRODUCT))?;
     let run = bench.dfu_util(&["-D", "image"])?;
+    let mut flash = erased(16, 64);
+    flash[16_384..][..100].copy_from_slice(&image(100));
     let left = Left {
-        exit: Some(64),
-        says: &["Error: File ID 1209:0002 does not match device"],
-        ..Left::done(flash.clone())
+        says: &NOT_DONE,
+        phase: (state::ERROR, status::NOT_DONE),
+        ..Left::done(flash)
     };
-    bench.hold(&run, &left)?;
-    let run = bench.run("dfu-util", &["-d", ",1209:0002", "-D", "image"], None)?;
-    let left = Left {
-        exit: FAILED,
-        says: &["No DFU capable USB device available"],
-        ..Left::done(flash.clone())
-    };
-    bench.hold(&run, &left)?;
-    let run = bench.run("dfu-util", &["-D", "image"], None)?;
-    let mut flash = flash;
+    bench.hold(&run, &left)
+}
+
+/// The suffix names another product, or the client is told to look for one.
+pub fn another_board(bench: &mut Bench) -> Result<(), String> {
+    let file = suffixed(&prefixed(16, &image(99)), VENDOR, 0x0002);
+    let differs = "Error: File ID 1209:0002 does not match device";
+    let tries = [
+        (",1209:0001", 64, differs),
+        ("1209:0001", 64, differs),
+        (",1209:0002", 74, "No DFU capable USB device available"),
+    ];
+    bench.power_on(16, erased(16, 64))?;
+    bench.lay("image", &file)?;
+    for (board, exit, says) in tries {
+        let run = bench.run("dfu-util", &["-d", board, "-D", "image"], None)?;
+        let left = Left {
+            exit: Some(exit),
+            says: &[says],
+            ..Left::done(erased(16, 64))
+        };
+        bench.hold(&run, &left)?;
+    }
+    Ok(())
+}
+
+/// Told nothing, or a board outside DFU mode (no comma), the client takes any
+/// board that is in DFU mode, even where file and board differ.
+pub fn any_board(bench: &mut Bench) -> Result<(), String> {
+    let mut flash = erased(16, 64);
     flash[16_384..][..99].copy_from_slice(&image(99));
-    bench.hold(&run, &Left::done(flash))
+    for words in [&["-D", "image"][..], &["-d", "1209:0002", "-D", "image"]] {
+        bench.power_on(16, erased(16, 64))?;
+        bench.lay(
+            "image",
+            &suffixed(&prefixed(16, &image(99)), VENDOR, 0x0002),
+        )?;
+        let run = bench.run("dfu-util", words, None)?;
+        bench.hold(&run, &Left::done(flash.clone()))?;
+    }
+    Ok(())
 }
 
 /// An empty file is a close with nothing to close.

@@ -4,24 +4,35 @@ use crate::bench::{same_bytes, written, Bench, Left};
 use crate::files::prefixed;
 use mullirim_host::second::{state, status, BLOCK};
 
-/// The loader hears nothing of a list.
+/// The loader hears nothing of a list. A serial number finds its own board.
 pub fn list(bench: &mut Bench) -> Result<(), String> {
     bench.power_on(16, written(64))?;
-    let run = bench.dfu_util(&["-l"])?;
-    let left = Left {
-        says: &[
-            "Found DFU: [1209:0001] ver=0100",
-            "intf=0",
-            "alt=0",
-            "serial=\"STAND-IN\"",
-        ],
-        ..Left::done(written(64))
-    };
-    bench.hold(&run, &left)?;
-    match bench.read("trace") {
-        Ok(_) => Err("a transfer reached the loader".to_string()),
-        Err(_) => Ok(()),
+    let found = [
+        "Found DFU: [1209:0001] ver=0100",
+        "intf=0",
+        "alt=0",
+        "serial=\"STAND-IN\"",
+    ];
+    let tries: [(&[&str], &[&str]); 3] = [
+        (&["-l"], &found),
+        (&["-S", "STAND-IN", "-l"], &found),
+        (&["-S", "ANOTHER", "-l"], &[]),
+    ];
+    for (words, says) in tries {
+        let run = bench.dfu_util(words)?;
+        let left = Left {
+            says,
+            ..Left::done(written(64))
+        };
+        bench.hold(&run, &left)?;
+        if run.words.contains("Found DFU") == says.is_empty() || bench.read("trace").is_ok() {
+            return Err(format!(
+                "{words:?}: the wrong board, or a transfer\n{}",
+                run.words
+            ));
+        }
     }
+    Ok(())
 }
 
 /// One upload, which must give these bytes.
@@ -94,4 +105,18 @@ pub fn small(bench: &mut Bench) -> Result<(), String> {
         true => Ok(()),
         false => Err("a small upload went on".to_string()),
     }
+}
+
+/// The client writes over no file, and says so once it has looked at the board.
+pub fn onto_a_file(bench: &mut Bench) -> Result<(), String> {
+    bench.power_on(16, written(64))?;
+    bench.lay("kept.bin", b"what was kept")?;
+    let run = bench.dfu_util(&["-U", "kept.bin"])?;
+    let left = Left {
+        exit: Some(73),
+        says: &["Cannot open file kept.bin for writing: File exists"],
+        ..Left::done(written(64))
+    };
+    bench.hold(&run, &left)?;
+    same_bytes("the file", &bench.read("kept.bin")?, b"what was kept")
 }
