@@ -108,8 +108,10 @@ static void plug_in(void)
 static void trace(const uint8_t setup[8], const uint8_t *data, size_t length, struct mullirim_answer a, const uint8_t *reply)
 {
     const char *name = getenv("MULLIRIM_TRACE");
-    const uint8_t answer[5] = {(uint8_t)a.code, (uint8_t)a.count, (uint8_t)(a.count >> 8), (uint8_t)(a.count >> 16), (uint8_t)(a.count >> 24)};
+    uint8_t answer[5] = {(uint8_t)a.code};
 
+    for (int i = 0; i < 4; i++)
+        answer[1 + i] = (uint8_t)(a.count >> 8 * i);
     if (!name)
         return;
     FILE *to = fopen(name, "ab");

@@ -3,7 +3,7 @@
 
 use crate::bench::{erased, written, Bench, Left};
 use crate::files::{image, whole_file};
-use mullirim_host::second::{command, state, status, step, Session, TRANSFER};
+use mullirim_host::second::{command, state, status, step, Session, ERASED, TRANSFER};
 use mullirim_host::tape::{header, setup};
 
 /// A request: its setup and its data.
@@ -61,53 +61,33 @@ fn found_in(bench: &mut Bench, state: u8, requests: &[Request]) -> Result<(), St
 
 /// Our own client exits with 1 where a command was not carried out.
 pub fn refused_commands(bench: &mut Bench) -> Result<(), String> {
-    let tries: [(&[&str], u8, &str); 6] = [
-        (
-            &["erase", "15", "1"],
-            status::ADDRESS,
-            "state 10, status 08",
-        ),
-        (
-            &["erase", "16", "49"],
-            status::ADDRESS,
-            "state 10, status 08",
-        ),
-        (
-            &["erase", "16", "0"],
-            status::ADDRESS,
-            "state 10, status 08",
-        ),
-        (
-            &["check", "16", "1"],
-            status::NOT_ERASED,
-            "state 10, status 05",
-        ),
-        (
-            &["check", "16", "49153"],
-            status::ADDRESS,
-            "state 10, status 08",
-        ),
-        (&["read", "64", "1"], status::ADDRESS, "state 10, status 08"),
+    let tries = [
+        (["erase", "15", "1"], status::ADDRESS),
+        (["erase", "16", "49"], status::ADDRESS),
+        (["erase", "16", "0"], status::ADDRESS),
+        (["check", "16", "1"], status::NOT_ERASED),
+        (["check", "16", "49153"], status::ADDRESS),
+        (["read", "64", "1"], status::ADDRESS),
     ];
     bench.power_on(16, written(64))?;
-    for (words, code, says) in tries {
-        let run = bench.command(words)?;
+    for (words, code) in tries {
+        let run = bench.command(&words)?;
         let left = Left {
             exit: Some(1),
-            says: &[says],
+            says: &[&format!("state 10, status {code:02X}")],
             phase: (state::ERROR, code),
             ..Left::done(written(64))
         };
-        bench
-            .hold(&run, &left)
-            .map_err(|error| format!("{words:?}: {error}"))?;
+        let held = bench.hold(&run, &left);
+        held.map_err(|error| format!("{words:?}: {error}"))?;
     }
     let mut flash = written(64);
-    flash[20 * 1_024..22 * 1_024].fill(0xFF);
-    let run = bench.command(&["erase", "20", "2"])?;
-    bench.hold(&run, &Left::done(flash.clone()))?;
-    let run = bench.command(&["check", "20", "2048"])?;
-    bench.hold(&run, &Left::done(flash))
+    flash[20 * 1_024..22 * 1_024].fill(ERASED);
+    for words in [["erase", "20", "2"], ["check", "20", "2048"]] {
+        let run = bench.command(&words)?;
+        bench.hold(&run, &Left::done(flash.clone()))?;
+    }
+    Ok(())
 }
 
 /// A file of eight bytes that is a command is carried out, but the client waits
