@@ -6,11 +6,11 @@ SOURCES := crates.txt $(shell find crates -name '*.rt' -o -name '*.antt')
 
 CHECKED = -std=c11 -g -O1 -Wall -Wextra -DCHECKED -fsanitize=address,undefined -fno-sanitize-recover=all -Iinclude
 
-.PHONY: test demo soak bench expected host layout library example differ faults replay checked quoted
+.PHONY: test demo soak bench expected host layout library example differ faults replay checked quoted stock setup
 
 # The gate: the second loader's own tests, the stored outputs against it, the calls for C and Rust, then every proof, every edit that
 # must fail and every program, from nothing. The last line is the prover's own count.
-test: host expected layout example differ faults replay checked quoted
+test: host expected layout example differ faults replay checked quoted stock
 	rt ci
 
 host: build/libboard.a
@@ -79,6 +79,15 @@ checked: build/libboard.a
 	grep -q '^READ of size' build/checked/liar.said
 	! build/checked/liar write 2> build/checked/liar.said
 	grep -q '^WRITE of size' build/checked/liar.said
+
+# Stock dfu-util on the proved calls, by a stand-in for libusb. The gate goes on without where it is not installed, and says so.
+test: STOCK = --or-skip
+stock: build/libboard.a
+	@tools/stock $(STOCK)
+
+# Installs what the tests use and this machine lacks, where that can be done, and says what is missing still.
+setup:
+	@tools/setup
 
 # A technician's visit on a simulated board, through the proved calls. ARGS holds its flags: make demo ARGS=--help
 demo: build/libboard.a

@@ -1,0 +1,122 @@
+//! Listing, and uploads.
+
+use crate::bench::{same_bytes, written, Bench, Left};
+use crate::files::prefixed;
+use mullirim_host::second::{state, status, BLOCK};
+
+/// The loader hears nothing of a list. A serial number finds its own board.
+pub fn list(bench: &mut Bench) -> Result<(), String> {
+    bench.power_on(16, written(64))?;
+    let found = [
+        "Found DFU: [1209:0001] ver=0100",
+        "intf=0",
+        "alt=0",
+        "serial=\"STAND-IN\"",
+    ];
+    let tries: [(&[&str], &[&str]); 3] = [
+        (&["-l"], &found),
+        (&["-S", "STAND-IN", "-l"], &found),
+        (&["-S", "ANOTHER", "-l"], &[]),
+    ];
+    for (words, says) in tries {
+        let run = bench.dfu_util(words)?;
+        let left = Left {
+            says,
+            ..Left::done(written(64))
+        };
+        bench.hold(&run, &left)?;
+        if run.words.contains("Found DFU") == says.is_empty() || bench.read("trace").is_ok() {
+            return Err(format!(
+                "{words:?}: the wrong board, or a transfer\n{}",
+                run.words
+            ));
+        }
+    }
+    Ok(())
+}
+
+/// One upload, which must give these bytes.
+fn gives(bench: &mut Bench, wanted: &[u8]) -> Result<(), String> {
+    let flash = bench.flash.clone();
+    bench.remove("read-out");
+    let run = bench.dfu_util(&["-U", "read-out"])?;
+    let left = Left {
+        says: &["Upload done."],
+        phase: (state::UP_IDLE, status::OK),
+        ..Left::done(flash)
+    };
+    bench.hold(&run, &left)?;
+    same_bytes("the file", &bench.read("read-out")?, wanted)
+}
+
+/// The application behind its header; and once more, since the board is still
+/// in the first upload.
+pub fn whole(bench: &mut Bench) -> Result<(), String> {
+    for (first, blocks) in [(16, 64), (1, 2), (3, 7), (1, 64), (63, 64)] {
+        bench.power_on(first, written(blocks))?;
+        let file = prefixed(first, &written(blocks)[(first * BLOCK) as usize..]);
+        gives(bench, &file)?;
+        gives(bench, &file)?;
+    }
+    Ok(())
+}
+
+/// READ, BIN and INFO choose what an upload gives.
+pub fn chosen(bench: &mut Bench) -> Result<(), String> {
+    let flash = written(64);
+    bench.power_on(16, flash.clone())?;
+    let tell = |bench: &mut Bench, words: &[&str]| {
+        let run = bench.command(words)?;
+        bench.hold(&run, &Left::done(written(64)))
+    };
+    for length in [1, 1_016, 1_017, 2_000, 2_040, 41 * BLOCK] {
+        tell(bench, &["read", "23", &length.to_string()])?;
+        let range = &flash[23 * 1_024..][..length as usize];
+        gives(bench, &prefixed(23, range))?;
+        tell(bench, &["bin", "1"])?;
+        gives(bench, range)?;
+        tell(bench, &["bin", "0"])?;
+    }
+    tell(bench, &["info"])?;
+    let info = [
+        [0, 4, 64, 0], // block size, blocks
+        [1, 0, 0x4C, 0x4D],
+        [2, 0, 0x4C, 0x4D],
+        [0, 0, 1, 0],    // where the application ends
+        [0, 0x40, 0, 0], // and where it starts
+    ];
+    gives(bench, &info.concat())
+}
+
+/// A request for fewer than 1,024 bytes ends an upload, so each begins anew and
+/// a client that asks in small pieces never comes to an end.
+pub fn small(bench: &mut Bench) -> Result<(), String> {
+    bench.power_on(16, written(64))?;
+    bench.remove("read-out");
+    let run = bench.dfu_util_until(10_000, &["-t", "512", "-U", "read-out"])?;
+    let left = Left {
+        exit: None,
+        ..Left::done(written(64))
+    };
+    bench.hold(&run, &left)?;
+    let first = &prefixed(16, &written(64)[16_384..])[..512];
+    let read = bench.read("read-out")?;
+    match read.chunks_exact(512).all(|piece| piece == first) {
+        true => Ok(()),
+        false => Err("a small upload went on".to_string()),
+    }
+}
+
+/// The client writes over no file, and says so once it has looked at the board.
+pub fn onto_a_file(bench: &mut Bench) -> Result<(), String> {
+    bench.power_on(16, written(64))?;
+    bench.lay("kept.bin", b"what was kept")?;
+    let run = bench.dfu_util(&["-U", "kept.bin"])?;
+    let left = Left {
+        exit: Some(73),
+        says: &["Cannot open file kept.bin for writing: File exists"],
+        ..Left::done(written(64))
+    };
+    bench.hold(&run, &left)?;
+    same_bytes("the file", &bench.read("kept.bin")?, b"what was kept")
+}
