@@ -6,7 +6,7 @@ SOURCES := crates.txt $(shell find crates -name '*.rt' -o -name '*.antt')
 
 CHECKED = -std=c11 -g -O1 -Wall -Wextra -DCHECKED -fsanitize=address,undefined -fno-sanitize-recover=all -Iinclude
 
-.PHONY: test demo soak bench expected host layout library example differ faults replay checked quoted
+.PHONY: test demo soak bench expected host layout library example differ faults replay checked quoted names
 
 # The gate: the second loader's own tests, the stored outputs against it, the calls for C and Rust, then every proof, every edit that
 # must fail and every program, from nothing. The last line is the prover's own count.
@@ -79,6 +79,10 @@ checked: build/libboard.a
 	grep -q '^READ of size' build/checked/liar.said
 	! build/checked/liar write 2> build/checked/liar.said
 	grep -q '^WRITE of size' build/checked/liar.said
+
+# Every file, name and clause that the documents lead to is there.
+names:
+	tools/names
 
 # A technician's visit on a simulated board, through the proved calls. ARGS holds its flags: make demo ARGS=--help
 demo: build/libboard.a
