@@ -6,12 +6,24 @@ SOURCES := crates.txt $(shell find crates -name '*.rt' -o -name '*.antt')
 
 CHECKED = -std=c11 -g -O1 -Wall -Wextra -DCHECKED -fsanitize=address,undefined -fno-sanitize-recover=all -Iinclude
 
-.PHONY: test demo soak bench expected host layout library example differ faults replay checked quoted stock setup
+.PHONY: test quick demo soak bench expected host layout library example differ faults replay checked said quoted stored names stock setup
 
 # The gate: the second loader's own tests, the stored outputs against it, the calls for C and Rust, then every proof, every edit that
 # must fail and every program, from nothing. The last line is the prover's own count.
-test: host expected layout example differ faults replay checked quoted stock
+test: names host expected layout example differ faults replay checked quoted stock
 	rt ci
+
+# What a change needs while one is at it: the crates that changed since main was left (on main: since its last commit) with what they
+# stand on, the host's tests, and the names. It isn't the gate: crates above those, edits and comparisons are left out.
+quick:
+	@base=$$(git merge-base HEAD main 2>/dev/null || git merge-base HEAD origin/main 2>/dev/null || git rev-parse HEAD) && \
+	crates=$$({ git diff --name-only $$base -- crates && git ls-files --others --exclude-standard -- crates && \
+	    git diff $$base -- crates.txt | sed -n 's,^+\([a-z_]*\):.*,crates/\1/,p'; } | cut -d/ -f2 | sort -u) && \
+	there=$$(for crate in $$crates; do if [ -d crates/$$crate ]; then echo $$crate; fi; done) && \
+	if [ -n "$$there" ]; then echo rt check $$there && rt check $$there; \
+	else echo "No crate has changed since $$(git rev-parse --short $$base)."; fi && \
+	$(MAKE) --no-print-directory host names && \
+	echo "Ran: rt check of" $${there:-no crate}", the host's tests, the names. Before a merge: make test."
 
 host: build/libboard.a
 	$(CARGO) test --quiet --release --offline --workspace --manifest-path host/Cargo.toml
@@ -80,6 +92,7 @@ checked: build/libboard.a
 	! build/checked/liar write 2> build/checked/liar.said
 	grep -q '^WRITE of size' build/checked/liar.said
 
+<<<<<<< HEAD
 # Stock dfu-util on the proved calls, by a stand-in for libusb. The gate goes on without where it is not installed, and says so.
 test: STOCK = --or-skip
 stock: build/libboard.a
@@ -88,16 +101,36 @@ stock: build/libboard.a
 # Installs what the tests use and this machine lacks, where that can be done, and says what is missing still.
 setup:
 	@tools/setup
+=======
+# Every file, name and clause that the documents lead to is there.
+names:
+	tools/names
+>>>>>>> map
 
 # A technician's visit on a simulated board, through the proved calls. ARGS holds its flags: make demo ARGS=--help
 demo: build/libboard.a
 	@$(BOARD) visit -- $(ARGS)
 
-# The README quotes the visit, and what the comparisons say, as they are (but for empty lines).
-quoted: differ faults replay checked
+# What the visit and the comparisons say.
+said: differ faults replay checked
 	$(BOARD) visit > build/visit.said
 	grep . build/visit.said > build/demo.said
-	sed -n '/^`make demo` prints/,/^`make test` prints/s/^    //p' README.md | cmp - build/demo.said
-	! grep -n '@[A-Z]*@' README.md docs/*.md docs/landings/*.md
 	cat build/differ.said build/faults.said build/replay.said build/checked.said > build/test.said
-	sed -n '/^`make test` prints/,/^## /s/^    //p' README.md | cmp - build/test.said
+
+# docs/TRANSCRIPTS.md quotes it as it is (but for empty lines).
+quoted: said
+	sed -n '/^`make demo` prints/,/^`make test` prints/s/^    //p' docs/TRANSCRIPTS.md | cmp - build/demo.said
+	! grep -n '@[A-Z]*@' README.md docs/*.md docs/landings/*.md
+	sed -n '/^`make test` prints/,/^## /s/^    //p' docs/TRANSCRIPTS.md | cmp - build/test.said
+
+# Writes anew what `expected` and `quoted` compare with: the programs' inputs and outputs, by the second loader, and the transcripts.
+stored: said
+	$(HOST) vectors > build/stored && mv build/stored crates/vectors/stdout
+	$(HOST) script -- session > build/stored && mv build/stored crates/play/stdin
+	$(HOST) play < crates/play/stdin > build/stored && mv build/stored crates/play/stdout
+	$(HOST) script -- desk > build/stored && mv build/stored crates/desk/stdin
+	$(HOST) play < crates/desk/stdin > build/stored && mv build/stored crates/desk/stdout
+	awk '/^`make (demo|test)` prints/ { print; print ""; file = /^`make demo/ ? "build/visit.said" : "build/test.said"; \
+	        while ((getline line < file) > 0) print line == "" ? "" : "    " line; print ""; skip = 1; next } \
+	    skip && /^(    |$$)/ { next } { skip = 0; print }' docs/TRANSCRIPTS.md > build/stored && mv build/stored docs/TRANSCRIPTS.md
+	@git --no-pager diff --stat -- crates docs/TRANSCRIPTS.md
