@@ -92,7 +92,6 @@ checked: build/libboard.a
 	! build/checked/liar write 2> build/checked/liar.said
 	grep -q '^WRITE of size' build/checked/liar.said
 
-<<<<<<< HEAD
 # Stock dfu-util on the proved calls, by a stand-in for libusb. The gate goes on without where it is not installed, and says so.
 test: STOCK = --or-skip
 stock: build/libboard.a
@@ -101,11 +100,10 @@ stock: build/libboard.a
 # Installs what the tests use and this machine lacks, where that can be done, and says what is missing still.
 setup:
 	@tools/setup
-=======
+
 # Every file, name and clause that the documents lead to is there.
 names:
 	tools/names
->>>>>>> map
 
 # A technician's visit on a simulated board, through the proved calls. ARGS holds its flags: make demo ARGS=--help
 demo: build/libboard.a
