@@ -6,7 +6,7 @@ SOURCES := crates.txt $(shell find crates -name '*.rt' -o -name '*.antt')
 
 CHECKED = -std=c11 -g -O1 -Wall -Wextra -DCHECKED -fsanitize=address,undefined -fno-sanitize-recover=all -Iinclude
 
-.PHONY: test demo soak bench expected host layout library example differ faults replay checked quoted
+.PHONY: test demo tool soak bench expected host layout library example differ faults replay checked quoted
 
 # The gate: the second loader's own tests, the stored outputs against it, the calls for C and Rust, then every proof, every edit that
 # must fail and every program, from nothing. The last line is the prover's own count.
@@ -80,13 +80,18 @@ checked: build/libboard.a
 	! build/checked/liar write 2> build/checked/liar.said
 	grep -q '^WRITE of size' build/checked/liar.said
 
-# A technician's visit on a simulated board, through the proved calls. ARGS holds its flags: make demo ARGS=--help
-demo: build/libboard.a
-	@$(BOARD) visit -- $(ARGS)
+# The technician's tool over the proved calls, at build/mullirim. It takes its name when it is whole, also where the old one runs.
+tool: build/libboard.a
+	@$(CARGO) build --release --offline --manifest-path host/Cargo.toml -p mullirim-tool --target-dir host/target
+	@cp host/target/release/mullirim build/mullirim.new.$$$$ && mv -f build/mullirim.new.$$$$ build/mullirim
+
+# A technician's visit on a simulated board. ARGS holds its flags: make demo ARGS=--help
+demo: tool
+	@build/mullirim visit $(ARGS)
 
 # The README quotes the visit, and what the comparisons say, as they are (but for empty lines).
-quoted: differ faults replay checked
-	$(BOARD) visit > build/visit.said
+quoted: tool differ faults replay checked
+	build/mullirim visit > build/visit.said
 	grep . build/visit.said > build/demo.said
 	sed -n '/^`make demo` prints/,/^`make test` prints/s/^    //p' README.md | cmp - build/demo.said
 	! grep -n '@[A-Z]*@' README.md docs/*.md docs/landings/*.md
