@@ -36,3 +36,37 @@ pub fn columns(out: &(impl IsTerminal + AsRawFd)) -> Option<usize> {
         _ => Some(USUAL),
     }
 }
+
+#[cfg(test)]
+mod tests {
+    use super::*;
+    use std::fs::File;
+
+    const TIOCSWINSZ: c_ulong = 0x5414;
+
+    /// A terminal of this test's own.
+    fn terminal(columns: c_ushort) -> File {
+        let terminal = File::open("/dev/ptmx").unwrap();
+        let size = Size {
+            columns,
+            ..Size::default()
+        };
+        // SAFETY: the kernel reads the struct that the request names.
+        let went = unsafe { ioctl(terminal.as_raw_fd(), TIOCSWINSZ, &size as *const Size) };
+        assert_eq!(went, 0);
+        terminal
+    }
+
+    #[test]
+    fn a_terminal_says_how_wide_it_is() {
+        for wide in [1, 57, 80, 1_000] {
+            assert_eq!(columns(&terminal(wide)), Some(usize::from(wide)));
+        }
+    }
+
+    #[test]
+    fn one_that_does_not_say_has_80_columns_and_what_is_none_has_nothing() {
+        assert_eq!(columns(&terminal(0)), Some(80));
+        assert_eq!(columns(&File::open("/dev/null").unwrap()), None);
+    }
+}

@@ -31,8 +31,8 @@ pub fn two(old: &Held, new: &Held, difference: &Difference) -> String {
     };
     let do_not = if same == 1 { "does" } else { "do" };
     let mut lines = vec![
-        format!("old {}: {}", shown(&old.source.path), what(old)),
-        format!("new {}: {}", shown(&new.source.path), what(new)),
+        format!("old: {}, {}", shown(&old.source.path), what(old)),
+        format!("new: {}, {}", shown(&new.source.path), what(new)),
         application(old),
         format!(
             "{} {differ}, {same} {do_not} not",
@@ -69,19 +69,16 @@ fn application(held: &Held) -> String {
 /// What no sum tells.
 fn remarks(difference: &Difference) -> Vec<String> {
     let mut remarks = Vec::new();
-    let mut remark = |blocks: &[usize], why: &str| {
+    let mut remark = |what: &str, blocks: &[usize]| {
         if !blocks.is_empty() {
             remarks.push(String::new());
-            remarks.push(format!("{} {why}", listed(blocks)));
+            remarks.push(format!("{what}: {}", listed(blocks)));
         }
     };
-    let silent = "other bytes with the same sum: no sum tells them apart";
-    remark(&difference.silent, silent);
+    remark("other bytes, but the same sum", &difference.silent);
     let boot = difference.boot.as_deref().unwrap_or(&[]);
-    remark(
-        boot,
-        "before the application differ too: no sum is kept of them",
-    );
+    let before = "other bytes before the application, of which no sum is kept";
+    remark(before, boot);
     remarks
 }
 
