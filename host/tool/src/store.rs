@@ -74,7 +74,12 @@ fn finish(
 #[cfg(test)]
 mod tests {
     use super::*;
-    use std::os::unix::fs::{symlink, PermissionsExt};
+    use std::io::Read;
+    use std::os::unix::fs::{symlink, FileTypeExt, OpenOptionsExt, PermissionsExt};
+    use std::process::Command;
+
+    /// Linux's number for it.
+    const O_NONBLOCK: i32 = 0o4000;
 
     /// A folder of this test's own, gone with it.
     struct Folder(PathBuf);
@@ -180,12 +185,27 @@ mod tests {
         assert_eq!(folder.names(), ["link"]);
     }
 
+    /// A pipe of this test's own stands for the machine's devices, which no
+    /// slip of ours may replace.
     #[test]
-    fn a_device_is_written_to_and_stays_one() {
-        assert_eq!(write(Path::new("/dev/null"), b"gone"), Ok(()));
-        assert!(!Path::new("/dev/null").metadata().unwrap().is_file());
-        let why = "can't write /dev/full: No space left on device (os error 28)";
-        assert_eq!(write(Path::new("/dev/full"), b"x"), Err(why.to_string()));
+    fn what_is_no_plain_file_is_written_to_and_stays_what_it_is() {
+        let folder = Folder::new("pipe");
+        let pipe = folder.0.join("pipe");
+        let made = Command::new("mkfifo").arg(&pipe).status().unwrap();
+        assert!(made.success());
+        // So that opening it doesn't wait for a writer.
+        let mut options = OpenOptions::new();
+        let mut reader = options
+            .read(true)
+            .custom_flags(O_NONBLOCK)
+            .open(&pipe)
+            .unwrap();
+        assert_eq!(write(&pipe, b"through"), Ok(()));
+        let mut came = Vec::new();
+        reader.read_to_end(&mut came).unwrap();
+        assert_eq!(came, b"through");
+        assert!(pipe.metadata().unwrap().file_type().is_fifo());
+        assert_eq!(folder.names(), ["pipe"]);
     }
 
     #[test]
