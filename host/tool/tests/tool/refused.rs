@@ -266,3 +266,22 @@ fn a_name_is_shown_without_what_a_terminal_obeys() {
     let said = folder.done(&words);
     assert!(said.starts_with("a\\n\\u{1b}[31m\\xFF: a flash of 2 blocks\n"));
 }
+
+#[test]
+fn names_of_written_files_and_other_words_are_shown_so_too() {
+    let folder = Folder::new("written");
+    let words = ["visit", "--save", "\rs", "--after", "\u{9b}a"];
+    let said = folder.done(&words);
+    assert!(said.contains("             saved to \\rs\n"), "{said}");
+    assert!(
+        said.contains("             flash written to \\u{9b}a\n"),
+        "{said}"
+    );
+    assert_eq!(folder.names(), ["\rs", "\u{9b}a"]);
+    let why = "mullirim visit: --split takes a block number from 1 to 63, and '\\u{1b}' is none";
+    folder.refused(&["visit", "--split", "\x1b"], 2, &format!("{why} {HOW}"));
+    let why =
+        "mullirim sums: --split takes A:B with A from 1 and B over A and up to 64, as 16:64, \
+               and '\\u{7}' is not that";
+    folder.refused(&["sums", "--split", "\x07"], 2, &format!("{why} {HOW}"));
+}
