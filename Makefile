@@ -6,7 +6,8 @@ SOURCES := crates.txt $(shell find crates -name '*.rt' -o -name '*.antt')
 
 CHECKED = -std=c11 -g -O1 -Wall -Wextra -DCHECKED -fsanitize=address,undefined -fno-sanitize-recover=all -Iinclude
 
-.PHONY: test quick demo soak bench expected host layout library example differ faults replay checked said quoted stored names stock setup
+.PHONY: test quick demo tool soak bench expected host layout library example differ faults replay checked said quoted stored names
+.PHONY: stock setup
 
 # The gate: the second loader's own tests, the stored outputs against it, the calls for C and Rust, then every proof, every edit that
 # must fail and every program, from nothing. The last line is the prover's own count.
@@ -105,13 +106,18 @@ setup:
 names:
 	tools/names
 
-# A technician's visit on a simulated board, through the proved calls. ARGS holds its flags: make demo ARGS=--help
-demo: build/libboard.a
-	@$(BOARD) visit -- $(ARGS)
+# The technician's tool over the proved calls, at build/mullirim. It takes its name when it is whole, also where the old one runs.
+tool: build/libboard.a
+	@$(CARGO) build --release --offline --manifest-path host/Cargo.toml -p mullirim-tool --target-dir host/target
+	@cp host/target/release/mullirim build/mullirim.new.$$$$ && mv -f build/mullirim.new.$$$$ build/mullirim
+
+# A technician's visit on a simulated board. ARGS holds its flags: make demo ARGS=--help
+demo: tool
+	@build/mullirim visit $(ARGS)
 
 # What the visit and the comparisons say.
-said: differ faults replay checked
-	$(BOARD) visit > build/visit.said
+said: tool differ faults replay checked
+	build/mullirim visit > build/visit.said
 	grep . build/visit.said > build/demo.said
 	cat build/differ.said build/faults.said build/replay.said build/checked.said > build/test.said
 

@@ -1,12 +1,14 @@
 //! The words of the command line.
 
+use crate::names::shown;
+use crate::place;
+use crate::words::{asks_for_help, file, once, unknown, value_of};
 use mullirim_host::second::MOST_BLOCKS;
 use std::ffi::OsString;
-use std::os::unix::fs::MetadataExt;
-use std::path::{absolute, Path, PathBuf};
+use std::path::{Path, PathBuf};
 
 const HELP: &str = "\
-visit: a technician's visit on a simulated board
+mullirim visit: a technician's visit on a simulated board
 
 It starts the loader on a flash, reads the application back, erases it,
 downloads the corrected image and shows which block sums changed.
@@ -44,13 +46,12 @@ pub struct Words {
     pub after: Option<PathBuf>,
 }
 
-pub fn parse(words: impl Iterator<Item = OsString>) -> Result<Wish, String> {
-    let all: Vec<OsString> = words.collect();
-    if all.iter().any(|word| word == "--help") {
+pub fn parse(words: &[OsString]) -> Result<Wish, String> {
+    if asks_for_help(words) {
         return Ok(Wish::Help);
     }
     let mut found = Words::default();
-    let mut rest = all.into_iter();
+    let mut rest = words.iter().cloned();
     while let Some(flag) = rest.next() {
         found.take(&flag.to_string_lossy(), rest.next())?;
     }
@@ -66,7 +67,7 @@ impl Words {
             "--split" => once(&mut self.split, flag, block(flag, value)?),
             "--save" => once(&mut self.save, flag, file(flag, value)?),
             "--after" => once(&mut self.after, flag, file(flag, value)?),
-            _ => Err(format!("no flag is called {flag}")),
+            _ => Err(unknown(flag)),
         }
     }
 
@@ -92,60 +93,19 @@ impl Words {
 
 fn apart(flag: &str, path: &Path, other: &str, taken: &Path) -> Result<(), String> {
     for (flag, path) in [(flag, path), (other, taken)] {
-        // The file would come to stand where the link points, unseen here.
-        if path.is_symlink() && !path.exists() {
+        if place::leads_nowhere(path) {
             return Err(format!("{flag} names a link that leads nowhere"));
         }
     }
-    match (place(path), place(taken)) {
-        (Some(one), Some(two)) if one == two => {
-            Err(format!("{flag} must not name the file of {other}"))
-        }
-        _ => Ok(()),
-    }
-}
-
-/// What tells one file from another.
-#[derive(PartialEq)]
-enum Place {
-    /// Its device and its number there, whatever names lead to it.
-    Here(u64, u64),
-    /// Where it will stand once it is written.
-    ToCome(PathBuf),
-}
-
-/// Nothing where no file can be, which writing it will find out.
-fn place(path: &Path) -> Option<Place> {
-    if let Ok(file) = path.metadata() {
-        return Some(Place::Here(file.dev(), file.ino()));
-    }
-    let folder = absolute(path).ok()?.parent()?.canonicalize().ok()?;
-    Some(Place::ToCome(folder.join(path.file_name()?)))
-}
-
-fn once<T>(slot: &mut Option<T>, flag: &str, value: T) -> Result<(), String> {
-    match slot.replace(value) {
-        None => Ok(()),
-        Some(_) => Err(format!("{flag} is given twice")),
-    }
-}
-
-/// A flag is no value: `--save --after` is a name left out.
-fn value_of(value: Option<OsString>) -> Option<OsString> {
-    value.filter(|word| !word.is_empty() && !word.to_string_lossy().starts_with("--"))
-}
-
-fn file(flag: &str, value: Option<OsString>) -> Result<PathBuf, String> {
-    match value_of(value) {
-        Some(word) => Ok(PathBuf::from(word)),
-        None => Err(format!("{flag} needs the name of a file")),
+    match place::same(path, taken) {
+        true => Err(format!("{flag} must not name the file of {other}")),
+        false => Ok(()),
     }
 }
 
 fn block(flag: &str, value: Option<OsString>) -> Result<u16, String> {
     let word = value_of(value).ok_or_else(|| format!("{flag} needs a block number"))?;
-    let text = word.to_string_lossy();
-    let last = MOST_BLOCKS - 1;
+    let (text, last) = (shown(&word), MOST_BLOCKS - 1);
     text.parse()
         .map_err(|_| format!("{flag} takes a block number from 1 to {last}, and '{text}' is none"))
 }
@@ -155,7 +115,8 @@ mod tests {
     use super::*;
 
     fn parsed(words: &[&str]) -> Result<Wish, String> {
-        parse(words.iter().map(OsString::from))
+        let words: Vec<OsString> = words.iter().map(OsString::from).collect();
+        parse(&words)
     }
 
     fn refused(words: &[&str], message: &str) {
@@ -193,6 +154,7 @@ mod tests {
         refused(&["--fast"], "no flag is called --fast");
         refused(&["flash.bin"], "no flag is called flash.bin");
         refused(&["--split=16"], "no flag is called --split=16");
+        refused(&["--\u{1b}c"], "no flag is called --\\u{1b}c");
     }
 
     #[test]

@@ -2,65 +2,33 @@
 //! corrected one is put in its place, and the sums are shown before and after.
 //! Every transfer goes through the proved calls.
 
-#[path = "visit/plan.rs"]
 mod plan;
-#[path = "visit/screen.rs"]
-mod screen;
-#[path = "visit/steps.rs"]
 mod steps;
-#[path = "visit/sums.rs"]
 mod sums;
-#[path = "visit/tariff.rs"]
 mod tariff;
-#[path = "visit/wire.rs"]
-mod wire;
-#[path = "visit/words.rs"]
 mod words;
 
-use screen::Screen;
+pub use plan::USUAL_SPLIT;
+pub use sums::row;
+pub use tariff::BLOCKS as USUAL_BLOCKS;
+
+use crate::screen::Screen;
+use crate::End;
 use std::ffi::OsString;
-use std::io::{self, IsTerminal, Write};
-use std::process::ExitCode;
+use std::io::Write;
 use words::Wish;
 
-/// Why the program ends without a finished visit.
-#[derive(Debug, PartialEq)]
-enum End {
-    /// The words of the command line.
-    Usage(String),
-    /// An input, an answer of the board, or a file that can't be written.
-    Trouble(String),
-}
-
-fn main() -> ExitCode {
-    let live = io::stdout().is_terminal();
-    let (message, code) = match run(std::env::args_os().skip(1), io::stdout(), live) {
-        Ok(()) => return ExitCode::SUCCESS,
-        Err(End::Usage(message)) => (format!("{message} (--help shows the flags)"), 2),
-        Err(End::Trouble(message)) => (message, 1),
-    };
-    // Where stderr is gone too, the exit code is all that is left to say it.
-    let _ = writeln!(io::stderr(), "visit: {message}");
-    ExitCode::from(code)
-}
-
-fn run(words: impl Iterator<Item = OsString>, out: impl Write, live: bool) -> Result<(), End> {
-    let mut screen = Screen::new(out, live);
-    let went = match words::parse(words).map_err(End::Usage)? {
+pub fn run<W: Write>(words: &[OsString], screen: &mut Screen<W>) -> Result<(), End> {
+    match words::parse(words).map_err(End::Usage)? {
         Wish::Help => {
             screen.line(&words::help());
             Ok(())
         }
         Wish::Visit(words) => {
             let plan = plan::judge(words).map_err(End::Trouble)?;
-            steps::visit(&plan, &mut screen)
+            steps::visit(&plan, screen).map_err(End::Trouble)
         }
-    };
-    // The screen is closed also where the visit failed, so that the message
-    // doesn't follow a bar on its line.
-    let shown = screen.finish();
-    went.map_err(End::Trouble)?;
-    shown.map_err(|error| End::Trouble(format!("can't write to standard output: {error}")))
+    }
 }
 
 #[cfg(test)]
@@ -71,7 +39,8 @@ mod tests {
 
     fn shown(words: &[&str]) -> (Result<(), End>, String) {
         let mut out = Vec::new();
-        let went = run(words.iter().map(OsString::from), &mut out, false);
+        let words: Vec<OsString> = words.iter().map(OsString::from).collect();
+        let went = run(&words, &mut Screen::new(&mut out, None));
         (went, String::from_utf8(out).unwrap())
     }
 

@@ -1,13 +1,14 @@
 //! The steps of a visit, in order. Each ends the visit where an answer is not
 //! the awaited one.
 
-use crate::plan::Plan;
+use super::plan::Plan;
+use super::sums;
+use crate::names::shown;
 use crate::screen::{counted, grouped, Screen};
-use crate::sums;
+use crate::store::write;
 use crate::wire::Wire;
 use mullirim_host::second::{command, state, BLOCK, ERASED, TRANSFER};
 use mullirim_host::tape::header;
-use std::fs;
 use std::io::Write;
 use std::path::Path;
 
@@ -79,7 +80,7 @@ fn read_back<W: Write>(wire: &mut Wire, plan: &Plan, screen: &mut Screen<W>) -> 
     match &plan.save {
         Some(path) => {
             write(path, application)?;
-            screen.under(&format!("saved to {}", path.display()));
+            screen.under(&format!("saved to {}", shown(path)));
         }
         None => screen.under("kept in memory (--save FILE writes them)"),
     }
@@ -165,18 +166,15 @@ fn arrived(wire: &Wire, plan: &Plan) -> Result<(), String> {
 
 fn leave<W: Write>(wire: &Wire, path: &Path, screen: &mut Screen<W>) -> Result<(), String> {
     write(path, &wire.flash)?;
-    screen.under(&format!("flash written to {}", path.display()));
+    screen.under(&format!("flash written to {}", shown(path)));
     Ok(())
-}
-
-fn write(path: &Path, bytes: &[u8]) -> Result<(), String> {
-    fs::write(path, bytes).map_err(|error| format!("can't write {}: {error}", path.display()))
 }
 
 #[cfg(test)]
 mod tests {
     use super::*;
     use mullirim_host::second::sum;
+    use std::fs;
 
     /// Four blocks, the application from block 2 on.
     fn plan(image: Vec<u8>) -> Plan {
@@ -198,7 +196,7 @@ mod tests {
 
     fn visited(plan: &Plan) -> (Result<(), String>, Wire, String) {
         let (mut wire, mut out) = (wire(plan), Vec::new());
-        let went = serve(&mut wire, plan, &mut Screen::new(&mut out, false));
+        let went = serve(&mut wire, plan, &mut Screen::new(&mut out, None));
         (went, wire, String::from_utf8(out).unwrap())
     }
 
@@ -263,7 +261,7 @@ mod tests {
         let plan = plan(vec![1]);
         let mut wire = wire(&plan);
         (wire.session.phase.state, wire.session.phase.status) = (10, 0x0F);
-        let went = serve(&mut wire, &plan, &mut Screen::new(Vec::new(), false));
+        let went = serve(&mut wire, &plan, &mut Screen::new(Vec::new(), None));
         let why = "ended at step 2, read back: DNLOAD was answered 1 (stalled) \
                    and not 0 (taken); the board is in state 10, status 0F";
         assert_eq!(went, Err(why.to_string()));
@@ -275,7 +273,7 @@ mod tests {
         let plan = plan(vec![1]);
         let mut wire = wire(&plan);
         wire.session.upload.prefix = 0;
-        let went = serve(&mut wire, &plan, &mut Screen::new(Vec::new(), false));
+        let went = serve(&mut wire, &plan, &mut Screen::new(Vec::new(), None));
         let why = "ended at step 2, read back: \
                    the bytes read do not begin with the header of the range";
         assert_eq!(went, Err(why.to_string()));
@@ -288,7 +286,7 @@ mod tests {
         let plan = plan(vec![1]);
         let mut wire = wire(&plan);
         wire.session.sums.block[1] = 7;
-        let went = serve(&mut wire, &plan, &mut Screen::new(Vec::new(), false));
+        let went = serve(&mut wire, &plan, &mut Screen::new(Vec::new(), None));
         let why = "ended at step 6, check: the sums do not agree: \
                    that of block 1 is kept as 00000007, a fresh start finds 00000000";
         assert_eq!(went, Err(why.to_string()));
@@ -297,7 +295,7 @@ mod tests {
     #[test]
     fn a_flash_that_is_not_erased_takes_no_download() {
         let plan = plan(vec![1]);
-        let went = download(&mut wire(&plan), &plan, &mut Screen::new(Vec::new(), false));
+        let went = download(&mut wire(&plan), &plan, &mut Screen::new(Vec::new(), None));
         let why = "DNLOAD was answered 3 (faulted) and not 0 (taken); \
                    the board is in state 10, status 05";
         assert_eq!(went, Err(why.to_string()));
@@ -329,7 +327,7 @@ mod tests {
     #[test]
     fn a_download_ends_with_that_comparison() {
         let mut plan = plan(vec![0x42; 1_500]);
-        let (mut wire, mut screen) = (wire(&plan), Screen::new(Vec::new(), false));
+        let (mut wire, mut screen) = (wire(&plan), Screen::new(Vec::new(), None));
         erase(&mut wire, &plan, &mut screen).unwrap();
         plan.flash[0] ^= 1;
         let why = "the boot area is not as it was".to_string();
@@ -353,7 +351,7 @@ mod tests {
         let mut plan = plan(vec![1]);
         plan.save = Some("no-such-folder/save".into());
         plan.after = Some(path.clone());
-        let went = visit(&plan, &mut Screen::new(Vec::new(), false));
+        let went = visit(&plan, &mut Screen::new(Vec::new(), None));
         let left = fs::read(&path).unwrap();
         fs::remove_file(path).unwrap();
         assert!(went.is_err());
@@ -365,7 +363,7 @@ mod tests {
         let mut plan = plan(vec![1]);
         plan.first = 4;
         let why = "ended at step 1, start: the start was answered 2 (unfit) and not 0 (taken)";
-        let went = visit(&plan, &mut Screen::new(Vec::new(), false));
+        let went = visit(&plan, &mut Screen::new(Vec::new(), None));
         assert_eq!(went, Err(why.to_string()));
     }
 }

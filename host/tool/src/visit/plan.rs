@@ -1,17 +1,14 @@
 //! What a visit is to do. All inputs are judged here, before anything starts
 //! and before any file is written.
 
-use crate::screen::{counted, grouped};
-use crate::tariff;
-use crate::words::Words;
-use mullirim_host::second::{BLOCK, MOST_BLOCKS};
-use std::fs::File;
-use std::io::Read;
-use std::path::{Path, PathBuf};
+use super::tariff;
+use super::words::Words;
+use crate::files::{read_flash, read_image, BLOCK_BYTES};
+use crate::names::shown;
+use std::path::PathBuf;
 
-const BLOCK_BYTES: usize = BLOCK as usize;
-const MOST_BYTES: usize = MOST_BLOCKS * BLOCK_BYTES;
-const USUAL_SPLIT: u16 = 16;
+/// Where the application starts, unless another block is named.
+pub const USUAL_SPLIT: u16 = 16;
 
 #[derive(Debug)]
 pub struct Plan {
@@ -56,55 +53,13 @@ pub fn judge(words: Words) -> Result<Plan, String> {
 
 fn name(path: &Option<PathBuf>, built_in: &str) -> String {
     match path {
-        Some(path) => path.display().to_string(),
+        Some(path) => shown(path),
         None => built_in.to_string(),
     }
 }
 
 fn blocks_of(flash: &[u8]) -> u16 {
     (flash.len() / BLOCK_BYTES) as u16
-}
-
-fn read_flash(path: &Path) -> Result<Vec<u8>, String> {
-    let flash = read(path)?;
-    fit_flash(flash.len()).map_err(|why| format!("{}: {why}", path.display()))?;
-    Ok(flash)
-}
-
-fn read_image(path: &Path, room: usize) -> Result<Vec<u8>, String> {
-    let image = read(path)?;
-    fit_image(image.len(), room).map_err(|why| format!("{}: {why}", path.display()))?;
-    Ok(image)
-}
-
-/// Reads one byte more than any flash has at most, so that a file without an
-/// end is refused and not awaited.
-fn read(path: &Path) -> Result<Vec<u8>, String> {
-    let mut bytes = Vec::new();
-    File::open(path)
-        .and_then(|file| file.take(MOST_BYTES as u64 + 1).read_to_end(&mut bytes))
-        .map_err(|error| format!("can't read {}: {error}", path.display()))?;
-    Ok(bytes)
-}
-
-/// A file's length as far as it was read.
-fn length(bytes: usize) -> String {
-    match bytes > MOST_BYTES {
-        true => format!("more than {} bytes", grouped(MOST_BYTES)),
-        false => counted(bytes, "byte"),
-    }
-}
-
-/// The fewest blocks are two, one before the split and one after it.
-fn fit_flash(bytes: usize) -> Result<(), String> {
-    if bytes % BLOCK_BYTES == 0 && (2 * BLOCK_BYTES..=MOST_BYTES).contains(&bytes) {
-        return Ok(());
-    }
-    Err(format!(
-        "no flash has {}; it has 2 to {MOST_BLOCKS} whole blocks of {} bytes",
-        length(bytes),
-        grouped(BLOCK_BYTES)
-    ))
 }
 
 fn fit_split(first: u16, blocks: u16) -> Result<u16, String> {
@@ -119,19 +74,6 @@ fn fit_split(first: u16, blocks: u16) -> Result<u16, String> {
         "with {blocks} blocks of flash the application can't start at block {first}; \
          --split {fitting} would fit"
     ))
-}
-
-fn fit_image(bytes: usize, room: usize) -> Result<(), String> {
-    if bytes == 0 {
-        return Err("the image is empty; a download has at least 1 byte".to_string());
-    }
-    if bytes > room {
-        let (bytes, room) = (length(bytes), counted(room, "byte"));
-        return Err(format!(
-            "the image has {bytes}, and the application holds {room}"
-        ));
-    }
-    Ok(())
 }
 
 #[cfg(test)]
@@ -163,29 +105,6 @@ mod tests {
     }
 
     #[test]
-    fn a_flash_is_two_to_the_most_whole_blocks() {
-        for bytes in [2_048, 3_072, MOST_BYTES] {
-            assert_eq!(fit_flash(bytes), Ok(()));
-        }
-        let rule = format!("it has 2 to {MOST_BLOCKS} whole blocks of 1,024 bytes");
-        let short = format!("{} bytes", grouped(MOST_BYTES - 1));
-        let over = format!("more than {} bytes", grouped(MOST_BYTES));
-        for (bytes, said) in [
-            (0, "0 bytes"),
-            (1, "1 byte"),
-            (1_000, "1,000 bytes"),
-            (1_024, "1,024 bytes"),
-            (MOST_BYTES - 1, &short),
-            (MOST_BYTES + 1, &over),
-        ] {
-            assert_eq!(
-                fit_flash(bytes),
-                Err(format!("no flash has {said}; {rule}"))
-            );
-        }
-    }
-
-    #[test]
     fn a_split_leaves_a_block_on_both_sides() {
         assert_eq!(fit_split(1, 2), Ok(1));
         assert_eq!(fit_split(63, 64), Ok(63));
@@ -202,19 +121,6 @@ mod tests {
             ..Words::default()
         });
         assert!(why.ends_with("--split 1 to 63 would fit"));
-    }
-
-    #[test]
-    fn an_image_fits_the_application() {
-        assert_eq!(fit_image(1, 2_048), Ok(()));
-        assert_eq!(fit_image(2_048, 2_048), Ok(()));
-        let empty = "the image is empty; a download has at least 1 byte";
-        assert_eq!(fit_image(0, 2_048), Err(empty.to_string()));
-        let over = format!("more than {} bytes", grouped(MOST_BYTES));
-        for (bytes, said) in [(2_049, "2,049 bytes"), (MOST_BYTES + 1, &over)] {
-            let why = format!("the image has {said}, and the application holds 2,048 bytes");
-            assert_eq!(fit_image(bytes, 2_048), Err(why));
-        }
     }
 
     #[test]

@@ -2,7 +2,10 @@
 
 use std::io::{self, ErrorKind, Write};
 
+/// A bar's marks, where the screen has room for them, and the fewest that are
+/// worth showing.
 const WIDTH: usize = 40;
+const NARROW: usize = 4;
 /// Lines that belong to a step stand under its words.
 pub const INDENT: &str = "             ";
 
@@ -10,17 +13,17 @@ pub const INDENT: &str = "             ";
 /// stops no visit: a board must not stay erased because a window was closed.
 pub struct Screen<W: Write> {
     out: W,
-    live: bool,
+    columns: Option<usize>,
     open: bool,
     lost: Option<io::Error>,
 }
 
 impl<W: Write> Screen<W> {
-    /// On a live screen the bar is drawn again in place.
-    pub fn new(out: W, live: bool) -> Screen<W> {
+    /// On a terminal, which has columns, the bar is drawn again in place.
+    pub fn new(out: W, columns: Option<usize>) -> Screen<W> {
         Screen {
             out,
-            live,
+            columns,
             open: false,
             lost: None,
         }
@@ -41,12 +44,20 @@ impl<W: Write> Screen<W> {
         self.line(format!("{INDENT}{text}").trim_end());
     }
 
+    /// A line that a terminal would have to break can't be drawn again in
+    /// place; so the bar is as short as it must be, and where not even its
+    /// numbers have room it is shown once, at the end.
     pub fn progress(&mut self, done: usize, all: usize) {
-        if self.live {
-            self.put(&format!("\r{INDENT}{}", bar(done, all)));
-            self.open = true;
-        } else if done == all {
-            self.under(&bar(done, all));
+        let numbers = INDENT.len() + numbers(all, all).len();
+        match self.columns {
+            Some(columns) if columns >= numbers => {
+                let bar = bar(done, all, marks(columns - numbers));
+                self.put(&format!("\r{INDENT}{bar}"));
+                self.open = true;
+            }
+            _ if done < all => (),
+            Some(_) => self.under(&bar(done, all, 0)),
+            None => self.under(&bar(done, all, WIDTH)),
         }
     }
 
@@ -75,15 +86,27 @@ impl<W: Write> Screen<W> {
     }
 }
 
-/// A bar that is full only at the end.
-pub fn bar(done: usize, all: usize) -> String {
-    let full = done * WIDTH / all;
-    let (full, rest) = ("#".repeat(full), ".".repeat(WIDTH - full));
-    format!(
-        "[{full}{rest}] {} of {}",
-        grouped(done),
-        counted(all, "byte")
-    )
+/// How many marks of a bar fit into so many columns, with what stands around
+/// them.
+fn marks(columns: usize) -> usize {
+    match columns.saturating_sub("[] ".len()).min(WIDTH) {
+        0..NARROW => 0,
+        marks => marks,
+    }
+}
+
+/// A bar of so many marks that is full only at the end.
+fn bar(done: usize, all: usize, marks: usize) -> String {
+    if marks == 0 {
+        return numbers(done, all);
+    }
+    let full = done * marks / all;
+    let (full, rest) = ("#".repeat(full), ".".repeat(marks - full));
+    format!("[{full}{rest}] {}", numbers(done, all))
+}
+
+fn numbers(done: usize, all: usize) -> String {
+    format!("{} of {}", grouped(done), counted(all, "byte"))
 }
 
 /// A number with a comma before every three digits.
@@ -130,9 +153,9 @@ mod tests {
         }
     }
 
-    fn drawn(live: bool) -> String {
+    fn drawn(columns: Option<usize>) -> String {
         let mut out = Vec::new();
-        let mut screen = Screen::new(&mut out, live);
+        let mut screen = Screen::new(&mut out, columns);
         screen.progress(512, 1_024);
         screen.progress(1_024, 1_024);
         screen.line("next");
@@ -143,32 +166,67 @@ mod tests {
     #[test]
     fn the_bar_fills() {
         let empty = format!("[{}] 0 of 49,152 bytes", ".".repeat(40));
-        assert_eq!(bar(0, 49_152), empty);
+        assert_eq!(bar(0, 49_152, 40), empty);
         let half = format!("[{}{}] 512 of 1,024 bytes", "#".repeat(20), ".".repeat(20));
-        assert_eq!(bar(512, 1_024), half);
-        assert!(bar(49_151, 49_152).contains("#.]"));
-        assert_eq!(bar(7, 7), format!("[{}] 7 of 7 bytes", "#".repeat(40)));
+        assert_eq!(bar(512, 1_024, 40), half);
+        assert!(bar(49_151, 49_152, 40).contains("#.]"));
+        let full = format!("[{}] 7 of 7 bytes", "#".repeat(40));
+        assert_eq!(bar(7, 7, 40), full);
+        assert_eq!(bar(1, 2, 5), "[##...] 1 of 2 bytes");
+        assert_eq!(bar(1, 2, 0), "1 of 2 bytes");
     }
 
     #[test]
     fn a_live_bar_is_drawn_in_place() {
-        let (half, full) = (bar(512, 1_024), bar(1_024, 1_024));
-        assert_eq!(
-            drawn(true),
-            format!("\r{INDENT}{half}\r{INDENT}{full}\nnext\n")
-        );
+        let (half, full) = (bar(512, 1_024, 40), bar(1_024, 1_024, 40));
+        for columns in [76, 78, 80, 200] {
+            assert_eq!(
+                drawn(Some(columns)),
+                format!("\r{INDENT}{half}\r{INDENT}{full}\nnext\n")
+            );
+        }
+    }
+
+    /// A terminal goes back to the start of its line only while no line is
+    /// longer than it is wide.
+    #[test]
+    fn on_a_narrow_terminal_no_drawn_line_is_too_long() {
+        for columns in 33..78 {
+            let text = drawn(Some(columns));
+            let lines: Vec<&str> = text.lines().next().unwrap().split('\r').collect();
+            assert_eq!(lines.len(), 3, "{columns}: {text}");
+            assert!(
+                lines.iter().all(|line| line.len() <= columns),
+                "{columns}: {text}"
+            );
+            assert!(lines[2].ends_with("1,024 of 1,024 bytes"));
+            // What is drawn later covers what was drawn before.
+            assert!(lines[1].len() <= lines[2].len());
+        }
+        let shortest = format!("\r{INDENT}[##..] 512 of 1,024 bytes\r");
+        assert!(drawn(Some(40)).starts_with(&shortest));
+        let bare = format!("\r{INDENT}512 of 1,024 bytes\r");
+        assert!(drawn(Some(39)).starts_with(&bare));
+    }
+
+    #[test]
+    fn where_nothing_fits_the_numbers_are_one_line() {
+        for columns in [1, 32] {
+            let line = format!("{INDENT}1,024 of 1,024 bytes\nnext\n");
+            assert_eq!(drawn(Some(columns)), line);
+        }
     }
 
     #[test]
     fn elsewhere_the_full_bar_is_one_line() {
-        let full = bar(1_024, 1_024);
-        assert_eq!(drawn(false), format!("{INDENT}{full}\nnext\n"));
+        let full = bar(1_024, 1_024, 40);
+        assert_eq!(drawn(None), format!("{INDENT}{full}\nnext\n"));
     }
 
     #[test]
     fn a_bar_left_half_way_ends_its_line() {
         let mut out = Vec::new();
-        let mut screen = Screen::new(&mut out, true);
+        let mut screen = Screen::new(&mut out, Some(80));
         screen.progress(1, 4);
         screen.finish().unwrap();
         assert_eq!(out.last(), Some(&b'\n'));
@@ -180,7 +238,7 @@ mod tests {
             (ErrorKind::BrokenPipe, true),
             (ErrorKind::StorageFull, false),
         ] {
-            let mut screen = Screen::new(Narrow { room: 3, then }, false);
+            let mut screen = Screen::new(Narrow { room: 3, then }, None);
             screen.line("first");
             screen.line("second");
             assert_eq!(screen.finish().is_ok(), fine);

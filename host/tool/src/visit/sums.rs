@@ -27,7 +27,7 @@ pub fn show<W: Write>(wire: &Wire, old: &Sums, screen: &mut Screen<W>) {
     screen.line("");
 }
 
-fn row(name: &str, old: u32, new: u32) -> String {
+pub fn row(name: &str, old: u32, new: u32) -> String {
     format!("{name:>5}   {old:08X}   {new:08X}")
 }
 
@@ -140,7 +140,7 @@ mod tests {
         let mut old = wire.session.sums;
         (old.block[3], old.whole) = (0xA, 0xB);
         let mut out = Vec::new();
-        show(&wire, &old, &mut Screen::new(&mut out, false));
+        show(&wire, &old, &mut Screen::new(&mut out, None));
         let text = String::from_utf8(out).unwrap();
         let (block, whole) = (sum(&wire.flash[3_072..]), sum(&wire.flash[2_048..]));
         assert!(text.starts_with("5 Sums       1 block changed, 1 did not\n"));

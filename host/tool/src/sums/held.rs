@@ -1,0 +1,96 @@
+//! A file with the loader started on it.
+
+use super::words::{Kind, Source, Split};
+use crate::files::{read_flash, read_image, BLOCK_BYTES};
+use crate::names::shown;
+use crate::screen::counted;
+use crate::wire::Wire;
+use mullirim_host::second::ERASED;
+
+pub struct Held {
+    pub source: Source,
+    /// The bytes of the file.
+    pub bytes: usize,
+    pub split: Split,
+    pub wire: Wire,
+}
+
+pub fn hold(source: Source, split: Split) -> Result<Held, String> {
+    let (bytes, flash) = match source.kind {
+        Kind::Image => stand(&source, split)?,
+        Kind::Flash => {
+            let flash = read_flash(&source.path)?;
+            fit_split(split, (flash.len() / BLOCK_BYTES) as u16)
+                .map_err(|why| format!("{}: {why}", shown(&source.path)))?;
+            (flash.len(), flash)
+        }
+    };
+    Ok(Held {
+        wire: Wire::start(flash, split.first)?,
+        source,
+        bytes,
+        split,
+    })
+}
+
+/// The image as a visit leaves it: after it the application is erased. What is
+/// in the boot area has no part in the sums.
+fn stand(source: &Source, split: Split) -> Result<(usize, Vec<u8>), String> {
+    let [first, all] = [split.first, split.blocks].map(|block| usize::from(block) * BLOCK_BYTES);
+    let image = read_image(&source.path, all - first)?;
+    let mut flash = vec![ERASED; all];
+    flash[first..first + image.len()].copy_from_slice(&image);
+    Ok((image.len(), flash))
+}
+
+/// An application saved by itself often has whole blocks too, and would pass for
+/// a smaller flash; so the split says how many blocks there must be.
+fn fit_split(split: Split, blocks: u16) -> Result<(), String> {
+    if split.blocks == blocks {
+        return Ok(());
+    }
+    let Split { first, blocks: all } = split;
+    let hint = match blocks <= all - first {
+        true => "; an application by itself is an image, for --image",
+        false => "",
+    };
+    let has = counted(usize::from(blocks), "block");
+    Err(format!(
+        "the flash has {has}, and the split {first}:{all} speaks of {all}{hint}"
+    ))
+}
+
+impl Held {
+    /// The application's blocks, by their numbers.
+    pub fn blocks(&self) -> std::ops::Range<usize> {
+        usize::from(self.split.first)..usize::from(self.split.blocks)
+    }
+
+    pub fn sum(&self, block: usize) -> u32 {
+        self.wire.session.sums.block[block]
+    }
+
+    pub fn whole(&self) -> u32 {
+        self.wire.session.sums.whole
+    }
+
+    pub fn block(&self, block: usize) -> &[u8] {
+        &self.wire.flash[block * BLOCK_BYTES..][..BLOCK_BYTES]
+    }
+}
+
+#[cfg(test)]
+mod tests {
+    use super::*;
+
+    #[test]
+    fn a_split_speaks_of_as_many_blocks_as_there_are() {
+        let split = |first, blocks| Split { first, blocks };
+        assert_eq!(fit_split(split(3, 8), 8), Ok(()));
+        let why = "the flash has 49 blocks, and the split 16:64 speaks of 64";
+        assert_eq!(fit_split(split(16, 64), 49), Err(why.to_string()));
+        let why = "the flash has 48 blocks, and the split 16:64 speaks of 64; \
+                   an application by itself is an image, for --image";
+        assert_eq!(fit_split(split(16, 64), 48), Err(why.to_string()));
+    }
+}

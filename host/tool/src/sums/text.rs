@@ -1,0 +1,89 @@
+//! The sums as lines.
+
+use super::difference::Difference;
+use super::held::Held;
+use super::words::Kind;
+use crate::names::shown;
+use crate::screen::counted;
+use crate::visit::row;
+
+pub fn one(held: &Held) -> String {
+    let mut lines = vec![
+        format!("{}: {}", shown(&held.source.path), what(held)),
+        application(held),
+        String::new(),
+        "block   sum".to_string(),
+    ];
+    for block in held.blocks() {
+        lines.push(format!("{block:>5}   {:08X}", held.sum(block)));
+    }
+    lines.push(format!("whole   {:08X}", held.whole()));
+    lines.join("\n")
+}
+
+pub fn two(old: &Held, new: &Held, difference: &Difference) -> String {
+    let changed = &difference.changed;
+    let same = old.blocks().len() - changed.len();
+    let differ = if changed.len() == 1 {
+        "differs"
+    } else {
+        "differ"
+    };
+    let do_not = if same == 1 { "does" } else { "do" };
+    let mut lines = vec![
+        format!("old: {}, {}", shown(&old.source.path), what(old)),
+        format!("new: {}, {}", shown(&new.source.path), what(new)),
+        application(old),
+        format!(
+            "{} {differ}, {same} {do_not} not",
+            counted(changed.len(), "block")
+        ),
+        String::new(),
+        "block   old sum    new sum".to_string(),
+    ];
+    for block in changed {
+        let (old, new) = (old.sum(*block), new.sum(*block));
+        lines.push(row(&block.to_string(), old, new));
+    }
+    lines.push(row("whole", old.whole(), new.whole()));
+    lines.extend(remarks(difference));
+    lines.join("\n")
+}
+
+fn what(held: &Held) -> String {
+    match held.source.kind {
+        Kind::Flash => format!("a flash of {}", counted(held.split.blocks.into(), "block")),
+        Kind::Image => format!(
+            "an image of {}, as it would stand in a flash of {}",
+            counted(held.bytes, "byte"),
+            counted(held.split.blocks.into(), "block")
+        ),
+    }
+}
+
+fn application(held: &Held) -> String {
+    let (first, last) = (held.split.first, held.split.blocks - 1);
+    format!("the application from block {first} to {last}")
+}
+
+/// What no sum tells.
+fn remarks(difference: &Difference) -> Vec<String> {
+    let mut remarks = Vec::new();
+    let mut remark = |what: &str, blocks: &[usize]| {
+        if !blocks.is_empty() {
+            remarks.push(String::new());
+            remarks.push(format!("{what}: {}", listed(blocks)));
+        }
+    };
+    remark("other bytes, but the same sum", &difference.silent);
+    let boot = difference.boot.as_deref().unwrap_or(&[]);
+    let before = "other bytes before the application, of which no sum is kept";
+    remark(before, boot);
+    remarks
+}
+
+fn listed(blocks: &[usize]) -> String {
+    let numbers: Vec<String> = blocks.iter().map(usize::to_string).collect();
+    let s = if blocks.len() == 1 { "" } else { "s" };
+    format!("block{s} {}", numbers.join(", "))
+}

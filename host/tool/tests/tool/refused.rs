@@ -1,0 +1,287 @@
+//! What can't be used or understood: the message, the exit code, and nothing
+//! on standard output.
+
+use crate::folder::{some_flash, Folder};
+use mullirim_host::second::sum;
+use std::ffi::OsStr;
+use std::fs;
+use std::os::unix::ffi::OsStrExt;
+
+const HOW: &str = "(--help shows how)";
+
+#[test]
+fn wrong_use_ends_with_2() {
+    let folder = Folder::new("use");
+    let refused = |words: &[&str], message: &str| {
+        folder.refused(words, 2, &format!("{message} {HOW}"));
+    };
+    refused(&[], "mullirim: say what to do: visit or sums");
+    refused(&["fly"], "mullirim: no command is called fly");
+    refused(&["--json"], "mullirim: no command is called --json");
+    refused(&["Sums", "f"], "mullirim: no command is called Sums");
+    refused(&["\x1b[2J"], "mullirim: no command is called \\u{1b}[2J");
+    refused(
+        &["visit", "--fast"],
+        "mullirim visit: no flag is called --fast",
+    );
+    let needs = "mullirim visit: --flash needs the name of a file";
+    refused(&["visit", "--flash"], needs);
+    let none = "mullirim visit: --split takes a block number from 1 to 63, and '16:64' is none";
+    refused(&["visit", "--split", "16:64"], none);
+    let none = "mullirim sums: name a flash file, or an image by --image";
+    refused(&["sums"], none);
+    refused(
+        &["sums", "--fast"],
+        "mullirim sums: no flag is called --fast",
+    );
+    let two = "mullirim sums: --compare takes two files, and 1 is given";
+    refused(&["sums", "--compare", "f"], two);
+    for word in ["0:64", "64:64", "16:65", "16", "65537:65538"] {
+        let why = format!(
+            "mullirim sums: --split takes A:B with A from 1 and B over A and up to 64, as 16:64, \
+             and '{word}' is not that"
+        );
+        refused(&["sums", "f", "--split", word], &why);
+    }
+    assert!(folder.names().is_empty());
+}
+
+#[test]
+fn one_file_under_two_names_is_wrong_use() {
+    let folder = Folder::new("twice");
+    folder.put("f", some_flash(1, 64));
+    fs::hard_link(folder.path().join("f"), folder.path().join("hard")).unwrap();
+    std::os::unix::fs::symlink("f", folder.path().join("soft")).unwrap();
+    for other in ["f", "./f", "hard", "soft"] {
+        let why = format!("mullirim sums: both names of --compare lead to the same file {HOW}");
+        folder.refused(&["sums", "--compare", "f", other], 2, &why);
+        let why = format!("mullirim visit: --after must not name the file of --flash {HOW}");
+        folder.refused(&["visit", "--flash", "f", "--after", other], 2, &why);
+    }
+    assert_eq!(folder.get("f"), some_flash(1, 64));
+    assert_eq!(folder.names(), ["f", "hard", "soft"]);
+}
+
+/// The three ways in which a file comes to the tool, and how each is told of it.
+fn ways(file: &str) -> [(Vec<&str>, &'static str); 4] {
+    [
+        (vec!["sums", file], "mullirim sums"),
+        (vec!["sums", "--image", file], "mullirim sums"),
+        (vec!["visit", "--flash", file], "mullirim visit"),
+        (vec!["visit", "--image", file], "mullirim visit"),
+    ]
+}
+
+#[test]
+fn a_file_that_cannot_be_read_is_named_in_every_way() {
+    let folder = Folder::new("unread");
+    folder.put("plain", "x");
+    let cases = [
+        ("none", "No such file or directory (os error 2)"),
+        ("plain/below", "Not a directory (os error 20)"),
+        (".", "Is a directory (os error 21)"),
+        // What this process may open but nobody may read from its start.
+        ("/proc/self/mem", "Input/output error (os error 5)"),
+    ];
+    for (file, error) in cases {
+        for (words, who) in ways(file) {
+            folder.refused(&words, 1, &format!("{who}: can't read {file}: {error}"));
+        }
+    }
+    let words = ["sums", "--compare", "none", "also-none"];
+    let why = "mullirim sums: can't read none: No such file or directory (os error 2)";
+    folder.refused(&words, 1, why);
+}
+
+#[test]
+fn a_file_kept_from_its_reader_is_named() {
+    let folder = Folder::new("kept");
+    folder.put("f", some_flash(1, 64));
+    let path = folder.path().join("f");
+    let closed = <fs::Permissions as std::os::unix::fs::PermissionsExt>::from_mode(0o000);
+    fs::set_permissions(&path, closed).unwrap();
+    let why = "mullirim sums: can't read f: Permission denied (os error 13)";
+    // Nothing is kept from root.
+    match fs::read(&path) {
+        Err(_) => folder.refused(&["sums", "f"], 1, why),
+        Ok(_) => assert_eq!(folder.run(&["sums", "f"]).code, Some(0)),
+    }
+}
+
+#[test]
+fn a_flash_has_whole_blocks() {
+    let folder = Folder::new("length");
+    let cases = [
+        (0, "0 bytes"),
+        (1, "1 byte"),
+        (1_024, "1,024 bytes"),
+        (2_047, "2,047 bytes"),
+        (65_535, "65,535 bytes"),
+        (65_537, "more than 65,536 bytes"),
+        (66_560, "more than 65,536 bytes"),
+        (1_000_000, "more than 65,536 bytes"),
+    ];
+    for (length, said) in cases {
+        folder.put("f", vec![0x42; length]);
+        let rule = "it has 2 to 64 whole blocks of 1,024 bytes";
+        for command in ["sums", "visit"] {
+            let why = format!("mullirim {command}: f: no flash has {said}; {rule}");
+            let words = match command {
+                "sums" => vec!["sums", "f"],
+                _ => vec!["visit", "--flash", "f"],
+            };
+            folder.refused(&words, 1, &why);
+        }
+    }
+}
+
+#[test]
+fn a_flash_has_the_blocks_of_the_split() {
+    let folder = Folder::new("split");
+    folder.put("f", some_flash(1, 49));
+    let why = "mullirim sums: f: the flash has 49 blocks, and the split 16:64 speaks of 64";
+    folder.refused(&["sums", "f"], 1, why);
+    let why = "mullirim sums: f: the flash has 49 blocks, and the split 1:48 speaks of 48";
+    folder.refused(&["sums", "f", "--split", "1:48"], 1, why);
+    folder.put("f", some_flash(1, 48));
+    let why = "mullirim sums: f: the flash has 48 blocks, and the split 16:64 speaks of 64; \
+               an application by itself is an image, for --image";
+    folder.refused(&["sums", "f"], 1, why);
+    folder.put("g", some_flash(2, 64));
+    folder.refused(&["sums", "--compare", "g", "f"], 1, why);
+    let why = "mullirim visit: with 48 blocks of flash the application can't start at block 48; \
+               --split 1 to 47 would fit";
+    folder.refused(&["visit", "--flash", "f", "--split", "48"], 1, why);
+}
+
+#[test]
+fn an_image_fits_the_application() {
+    let folder = Folder::new("room");
+    folder.put("i", []);
+    let why = "i: the image is empty; a download has at least 1 byte";
+    folder.refused(
+        &["sums", "--image", "i"],
+        1,
+        &format!("mullirim sums: {why}"),
+    );
+    folder.refused(
+        &["visit", "--image", "i"],
+        1,
+        &format!("mullirim visit: {why}"),
+    );
+    folder.put("i", [7; 49_153]);
+    let why = "i: the image has 49,153 bytes, and the application holds 49,152 bytes";
+    folder.refused(
+        &["sums", "--image", "i"],
+        1,
+        &format!("mullirim sums: {why}"),
+    );
+    folder.refused(
+        &["visit", "--image", "i"],
+        1,
+        &format!("mullirim visit: {why}"),
+    );
+    folder.put("i", [7; 100_000]);
+    let why = "mullirim sums: i: the image has more than 65,536 bytes, \
+               and the application holds 1,024 bytes";
+    folder.refused(&["sums", "--image", "i", "--split", "3:4"], 1, why);
+}
+
+/// As `dfu-suffix` writes it: device, product, maker, DFU 1.0, the signature,
+/// its length, and the sum of all before.
+fn suffixed(firmware: &[u8]) -> Vec<u8> {
+    let numbers = [0x00, 0x01, 0xFF, 0xFF, 0x51, 0x04, 0x00, 0x01];
+    let mut file = [firmware, &numbers, b"UFD", &[16]].concat();
+    let sum = sum(&file);
+    file.extend(sum.to_le_bytes());
+    file
+}
+
+#[test]
+fn a_file_with_a_suffix_is_refused_in_every_way() {
+    let folder = Folder::new("suffix");
+    let why = "f: the file ends in a DFU suffix, whose 16 bytes would be taken for firmware; \
+               take them off first";
+    let flash = some_flash(1, 64);
+    for firmware in [&flash[..], &flash[..49_152 - 16], &flash[..1_008], &[]] {
+        let file = suffixed(firmware);
+        folder.put("f", &file);
+        for (words, who) in ways("f") {
+            folder.refused(&words, 1, &format!("{who}: {why}"));
+        }
+        // Without it the same bytes are taken, where they are enough.
+        folder.put("f", &file[..file.len() - 16]);
+        let taken = folder.run(&["sums", "--image", "f", "--split", "1:64"]);
+        let fits = (1..=64_512).contains(&firmware.len());
+        assert_eq!(taken.code, Some(i32::from(!fits)), "{}", taken.err);
+    }
+}
+
+#[test]
+fn a_file_with_a_header_is_refused_in_every_way() {
+    let folder = Folder::new("header");
+    let why = "f: the file begins with a PROG header, whose 8 bytes would shift the firmware; \
+               take them off first";
+    let flash = some_flash(1, 64);
+    for length in [1, 1_016, 20_000, 49_144, 65_528, 65_536] {
+        let length_bytes = u32::to_le_bytes(length);
+        let head = [&[1, 0, 16, 0], &length_bytes[..]].concat();
+        folder.put("f", [&head, &flash[..length as usize]].concat());
+        for (words, who) in ways("f") {
+            folder.refused(&words, 1, &format!("{who}: {why}"));
+        }
+    }
+    // A length that does not match is firmware that happens to begin so.
+    folder.put("f", [&[1, 0, 16, 0, 9, 0, 0, 0], &flash[..8]].concat());
+    folder.done(&["sums", "--image", "f"]);
+}
+
+/// What `visit` hands out with its header and what it saves: the first is what
+/// a board answers to an upload, the second is taken.
+#[test]
+fn what_a_visit_saves_is_bare() {
+    let folder = Folder::new("bare");
+    folder.done(&["visit", "--save", "s"]);
+    folder.done(&["sums", "--image", "s"]);
+    let saved = folder.get("s");
+    let head = [1, 0, 16, 0, 0, 0xC0, 0, 0];
+    folder.put("s", [&head, &saved[..]].concat());
+    assert_eq!(folder.run(&["sums", "--image", "s"]).code, Some(1));
+}
+
+#[test]
+fn a_name_is_shown_without_what_a_terminal_obeys() {
+    let folder = Folder::new("control");
+    let name = OsStr::from_bytes(b"a\n\x1b[31m\xFF");
+    let why = "can't read a\\n\\u{1b}[31m\\xFF: No such file or directory (os error 2)";
+    let words = [OsStr::new("sums"), name];
+    folder.refused(&words, 1, &format!("mullirim sums: {why}"));
+    let words = [OsStr::new("visit"), OsStr::new("--flash"), name];
+    folder.refused(&words, 1, &format!("mullirim visit: {why}"));
+    folder.put(name, [7; 2_048]);
+    let said = folder.done(&[&words[..], &["--split".as_ref(), "1".as_ref()]].concat());
+    assert!(said.contains("1 Start      a\\n\\u{1b}[31m\\xFF\n"));
+    assert!(!said.contains('\x1b'));
+    let words = ["sums".as_ref(), name, "--split".as_ref(), "1:2".as_ref()];
+    let said = folder.done(&words);
+    assert!(said.starts_with("a\\n\\u{1b}[31m\\xFF: a flash of 2 blocks\n"));
+}
+
+#[test]
+fn names_of_written_files_and_other_words_are_shown_so_too() {
+    let folder = Folder::new("written");
+    let words = ["visit", "--save", "\rs", "--after", "\u{9b}a"];
+    let said = folder.done(&words);
+    assert!(said.contains("             saved to \\rs\n"), "{said}");
+    assert!(
+        said.contains("             flash written to \\u{9b}a\n"),
+        "{said}"
+    );
+    assert_eq!(folder.names(), ["\rs", "\u{9b}a"]);
+    let why = "mullirim visit: --split takes a block number from 1 to 63, and '\\u{1b}' is none";
+    folder.refused(&["visit", "--split", "\x1b"], 2, &format!("{why} {HOW}"));
+    let why =
+        "mullirim sums: --split takes A:B with A from 1 and B over A and up to 64, as 16:64, \
+               and '\\u{7}' is not that";
+    folder.refused(&["sums", "--split", "\x07"], 2, &format!("{why} {HOW}"));
+}

@@ -1,0 +1,38 @@
+//! `mullirim visit`, and help everywhere.
+
+use crate::folder::Folder;
+
+#[test]
+fn help_is_shown_everywhere() {
+    let folder = Folder::new("help");
+    let all = folder.done(&["--help"]);
+    assert!(all.starts_with("mullirim: the technician's tool"));
+    assert!(all.contains("mullirim visit") && all.contains("mullirim sums"));
+    assert_eq!(folder.done(&["fly", "--help"]), all);
+    let visit = folder.done(&["visit", "--help"]);
+    assert!(visit.starts_with("mullirim visit: a technician's visit"));
+    assert_eq!(folder.done(&["visit", "--fast", "--help"]), visit);
+    let flags = [
+        "--flash", "--image", "--split", "--save", "--after", "--help",
+    ];
+    assert!(flags.iter().all(|flag| visit.contains(flag)));
+    let sums = folder.done(&["sums", "--help"]);
+    assert!(sums.starts_with("mullirim sums: the sums that the dashboard reads"));
+    assert_eq!(folder.done(&["sums", "a", "b", "--help"]), sums);
+    let flags = ["--image", "--split", "--compare", "--json", "--help"];
+    assert!(flags.iter().all(|flag| sums.contains(flag)));
+    for text in [all, visit, sums] {
+        assert!(text.lines().all(|line| line.len() < 80), "{text}");
+        assert!(text.contains("Exit: 0 done"));
+    }
+}
+
+#[test]
+fn a_visit_that_is_refused_writes_nothing() {
+    let folder = Folder::new("nothing");
+    let words = ["visit", "--split", "64", "--save", "s", "--after", "a"];
+    let why = "mullirim visit: with 64 blocks of flash the application can't start at block 64; \
+               --split 1 to 63 would fit";
+    folder.refused(&words, 1, why);
+    assert!(folder.names().is_empty());
+}
