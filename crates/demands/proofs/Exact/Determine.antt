@@ -1,0 +1,177 @@
+-- The demands leave no choice: two loaders that meet them stand at the same site after any calls. Assumes nothing.
+use Prim.Native.Nat.{ℕ}
+use mathlib.Core.List.{List, [], _∷_}
+use mathlib.Core.Path.{_≡_, sym, subst}
+use native.Mathlib.Decide.{map-dec, ℕ-discrete, decLe, decLt}
+use lib.ListN.{length}
+use Rattle.flash.specs.Flash.{startOf}
+use Rattle.sums.specs.Sum.{mostBlocks, Right}
+use Rattle.sums.proofs.Laws.{right-unique}
+use Rattle.session.specs.Session.{boardOf, appEnd}
+use Rattle.session.specs.declared.Board.{Board}
+use Rattle.loader.specs.Step.{startOutcome, stepOf}
+use Rattle.demands.specs.Calls.{begun, Call, Site, called, next, after}
+use Rattle.demands.specs.Asked.{Prepared}
+use Rattle.demands.specs.Safe.Refused.{Unfit}
+use Rattle.demands.specs.Safe.Fit.{AllowedStart, BadStart}
+use Rattle.demands.specs.Does.Starts.{Fresh}
+use Rattle.demands.specs.Kept.History.{Held}
+use Rattle.demands.specs.Exact.Determine.{SameStart, SameLeft, Determine}
+use Rattle.demands.proofs.Demands.{meets-demands}
+use Rattle.demands.proofs.Exact.SameCall.{Loader, agree, Same, SameFlash, SameSums, same-unfit, same-call}
+
+-- both hold, or not
+both : {P Q : Type 0} → Dec P → Dec Q → Dec (P × Q)
+both (yes p) (yes q) = yes (p, q)
+both (yes p) (no n) = no (λ h. n (h .1))
+both (no n) d = no (λ h. n (h .0))
+
+-- sizes are allowed or not
+allowed-or-not : (f : List ℕ) (a b : ℕ) → Dec (AllowedStart f a b)
+allowed-or-not f a b =
+    map-dec (λ h. record { some-loader = h .0; some-application = h .1 .0; few-blocks = h .1 .1 .0; sized = h .1 .1 .1 })
+    (λ h. (h .some-loader, (h .some-application, (h .few-blocks, h .sized))))
+    (both (decLe 1 a) (both (decLt a b) (both (decLe b mostBlocks) (ℕ-discrete (length f) (startOf b)))))
+
+module _ (x y : Loader) where
+  -- the same is left of a call, and at the same site the next one begins
+  same-next :
+      (at : Site) (c : Call) → Same x y at c → next (x .step) at c ≡ next (y .step) at c
+  unfolding next
+  same-next at c same = λ i. record { session = same .session i; flash = same .flash i }
+
+  -- from one site on, as long as something holds there that says so of one call
+  module _
+      (Holds : Site → Type 0)
+      (one : (at : Site) → Holds at → (c : Call) → Same x y at c)
+      (stays : (at : Site) → Holds at → (c : Call) → Holds (next (x .step) at c)) where
+    same-after :
+        (at : Site) → Holds at → (calls : List Call) (c : Call)
+        → SameLeft (called (x .step) (after (x .step) at calls) c) (called (y .step) (after (y .step) at calls) c)
+    unfolding after
+    same-after at h [] c = one at h c
+    same-after at h (d ∷ ds) c =
+        subst
+        (λ (s : Site).
+        SameLeft (called (x .step) (after (x .step) (next (x .step) at d) ds) c) (called (y .step) (after (y .step) s ds) c))
+        (same-next at d (one at h d)) (same-after (next (x .step) at d) (stays at h d) ds c)
+
+  -- a start that is taken: whatever calls come, both loaders keep what a history holds, so the flash pins the sums
+  module _ (f : List ℕ) (board : Board) where
+    Keeps : Loader → Site → Type 0
+    Keeps z at = (calls : List Call) → Held f board (after (z .step) at calls)
+
+    kept-next : (z : Loader) (at : Site) → Keeps z at → (c : Call) → Keeps z (next (z .step) at c)
+    unfolding Keeps after
+    kept-next z at h c = λ calls. h (c ∷ calls)
+
+    kept-sums : (at : Site) → Keeps x at → Keeps y at → (c : Call) → SameFlash x y at c → SameSums x y at c
+    unfolding Keeps after next
+    kept-sums at h k c same =
+        right-unique (next (x .step) at c .session .sums) (next (y .step) at c .session .sums) (next (y .step) at c .flash)
+        (board .a .0) (appEnd board)
+        (subst (λ (g : List ℕ). Right (next (x .step) at c .session .sums) g (board .a .0) (appEnd board)) same
+        (h (c ∷ []) .sums-right))
+        (k (c ∷ []) .sums-right)
+
+    abbrev BothKeep : Site → Type 0
+    BothKeep at = Keeps x at × Keeps y at
+
+    same-kept : (at : Site) → BothKeep at → (c : Call) → Same x y at c
+    same-kept at h c = same-call x y at c (kept-sums at (h .0) (h .1) c)
+
+    both-stay : (at : Site) → BothKeep at → (c : Call) → BothKeep (next (x .step) at c)
+    both-stay at h c = (
+      kept-next x at (h .0) c,
+      subst (Keeps y) (sym (same-next at c (same-kept at h c))) (kept-next y at (h .1) c),
+    )
+
+  -- a start that is refused: no call is prepared, and none moves from the spot
+  abbrev NonePrepared : Site → Type 0
+  NonePrepared at = (c : Call) → Prepared at c → ⊥
+
+  none-stays : (at : Site) → NonePrepared at → (c : Call) → NonePrepared (next (x .step) at c)
+  unfolding next
+  none-stays at none c =
+      let left : Unfit at c (called (x .step) at c) =
+      x .meets .refused at c .unfit (x .meets .unfit-exactly .unprepared at c (none c))
+      in
+      subst NonePrepared (sym (λ i. record { session = left .session i; flash = left .quiet .flash i })) none
+
+  module _ (f : List ℕ) (a b part0 part1 : ℕ) where
+    abbrev BeginSame : Type 0
+    BeginSame = SameStart (x .start f a b part0 part1) (y .start f a b part0 part1)
+
+    begin-taken : AllowedStart f a b → BeginSame
+    begin-taken h =
+        let fresh : (z : Loader) → Fresh f a b part0 part1 (z .start f a b part0 part1) =
+        λ z. z .meets .starts .taken f a b part0 part1 h
+        in
+        record {
+          answer = agree x y (λ z. fresh z .answer);
+          count = agree x y (λ z. fresh z .count);
+          session = λ i.
+              record {
+                board = agree x y (λ z. fresh z .board) i;
+                phase = agree x y (λ z. fresh z .phase) i;
+                down = agree x y (λ z. fresh z .down) i;
+                up = agree x y (λ z. fresh z .up) i;
+                sums = right-unique _ _ f a (appEnd (boardOf a b part0 part1)) (fresh x .sums) (fresh y .sums) i;
+              };
+        }
+
+    begin-refused : (AllowedStart f a b → ⊥) → BeginSame
+    begin-refused none =
+        let bad : (z : Loader) → BadStart (z .step) (z .start f a b part0 part1) =
+        λ z. z .meets .refused-start f a b part0 part1 none
+        in
+        record {
+          answer = agree x y (λ z. bad z .answer);
+          count = agree x y (λ z. bad z .count);
+          session = agree x y (λ z. bad z .session);
+        }
+
+    begin-same : BeginSame
+    begin-same = elim (allowed-or-not f a b) [ yes h ↦ begin-taken h | no none ↦ begin-refused none ]
+
+    abbrev beginning : Loader → Site
+    beginning z = begun (z .start) f a b part0 part1
+
+    begun-same : beginning x ≡ beginning y
+    unfolding begun
+    begun-same = λ i. record { session = begin-same .session i; flash = f }
+
+    abbrev GoesOn : Site → Site → Type 0
+    GoesOn at here =
+        (calls : List Call) (c : Call)
+        → SameLeft (called (x .step) (after (x .step) at calls) c) (called (y .step) (after (y .step) here calls) c)
+
+    taken-goes-on : AllowedStart f a b → GoesOn (beginning x) (beginning x)
+    unfolding Keeps
+    taken-goes-on h =
+        let board = boardOf a b part0 part1 in
+        same-after (BothKeep f board) (same-kept f board) (both-stay f board) (beginning x) (
+          x .meets .history f a b part0 part1 h,
+          subst (Keeps f board y) (sym begun-same) (y .meets .history f a b part0 part1 h),
+        )
+
+    refused-goes-on : (AllowedStart f a b → ⊥) → GoesOn (beginning x) (beginning x)
+    unfolding begun
+    refused-goes-on none =
+        let bad = x .meets .refused-start f a b part0 part1 none in
+        same-after NonePrepared (λ at n c. same-unfit x y at c (n c)) none-stays (beginning x)
+        (λ c p. x .meets .unfit-exactly .prepared (beginning x) c p (bad .later-answer f c))
+
+    goes-on-same : GoesOn (beginning x) (beginning y)
+    goes-on-same =
+        subst (GoesOn (beginning x)) begun-same
+        (elim (allowed-or-not f a b) [ yes h ↦ taken-goes-on h | no none ↦ refused-goes-on none ])
+
+pub demands-determine : Determine
+demands-determine start step meets f a b part0 part1 =
+    let theirs : Loader = record { start = start; step = step; meets = meets } in
+    let ours : Loader = record { start = startOutcome; step = stepOf; meets = meets-demands } in
+    record {
+      begins = begin-same theirs ours f a b part0 part1;
+      goes-on = goes-on-same theirs ours f a b part0 part1;
+    }
