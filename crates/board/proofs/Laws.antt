@@ -4,7 +4,7 @@ use Prim.Native.Nat.{ℕ}
 use mathlib.Core.List.{List}
 use mathlib.Core.Path.{_≡_, refl}
 use Rattle.session.specs.declared.Session.{Session}
-use Rattle.moves.specs.Answers.{Leaves}
+use Rattle.answers.specs.Answers.{Leaves}
 use Rattle.loader.specs.Step.{stepOf}
 use Rattle.board.specs.Board.{Left, servedOf}
 

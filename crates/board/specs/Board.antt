@@ -2,7 +2,7 @@
 use Prim.Native.Nat.{ℕ}
 use mathlib.Core.List.{List}
 use Rattle.session.specs.declared.Session.{Session}
-use Rattle.moves.specs.Answers.{Leaves, Told}
+use Rattle.answers.specs.Answers.{Leaves, Told}
 use Rattle.loader.specs.Step.{startOutcome, stepOf}
 use Rattle.board.specs.declared.Reply.{Reply}
 use Rattle.board.specs.declared.Started.{Started}

@@ -41,7 +41,7 @@ pub extern "C" fn mullirim_start(
     let answer = o.answer;
     let session = o.session;
     Started {
-        code: moves::number(answer),
+        code: answers::number(answer),
         session: session,
     }
 }
@@ -56,7 +56,7 @@ fn serve(session: Session, flash: &mut [u8], setup: &[u8], d: &[u8], reply: &mut
     let next = o.session;
     Served {
         answer: Reply {
-            code: moves::number(answer),
+            code: answers::number(answer),
             count: o.count,
         },
         session: next,

@@ -3,7 +3,7 @@
 use Prim.Native.Nat.{ℕ}
 use mathlib.Core.List.{List, [], _∷_}
 use Rattle.session.specs.declared.Session.{Session}
-use Rattle.moves.specs.Answers.{Leaves, Told}
+use Rattle.answers.specs.Answers.{Leaves, Told}
 
 -- session, flash, setup, data and reply buffer to all that a call leaves
 abbrev pub Step : Type 0

@@ -13,8 +13,8 @@ use Rattle.sums.specs.Sum.{Split, refreshed}
 use Rattle.sums.specs.declared.Sums.{Sums}
 use Rattle.session.specs.Session.{appEnd}
 use Rattle.session.specs.declared.Board.{Board}
-use Rattle.moves.specs.declared.Outcome.{Outcome}
-use Rattle.moves.specs.Answers.{done}
+use Rattle.answers.specs.declared.Outcome.{Outcome}
+use Rattle.answers.specs.Answers.{done}
 use Rattle.jobs.specs.declared.Job.{Job}
 use Rattle.jobs.specs.declared.Job.the-variants.{Nothing, Bytes, Wipe}
 use Rattle.jobs.specs.Job.{Place, Can, storesFor, sumsAfter, sumsWiped, summed, bytesDone, wipeDone, carriedOut}

@@ -11,8 +11,8 @@ use Rattle.sums.specs.Sum.{refreshed, Split}
 use Rattle.sums.specs.declared.Sums.{Sums}
 use Rattle.session.specs.Session.{appEnd, withSums}
 use Rattle.session.specs.declared.Board.{Board}
-use Rattle.moves.specs.declared.Outcome.{Outcome}
-use Rattle.moves.specs.Answers.{Done, outcome, done}
+use Rattle.answers.specs.declared.Outcome.{Outcome}
+use Rattle.answers.specs.Answers.{Done, outcome, done}
 use Rattle.jobs.specs.declared.Plan.{Plan}
 use Rattle.jobs.specs.declared.Job.{Job}
 use Rattle.jobs.specs.declared.Job.the-variants.{Nothing, Bytes, Wipe}

@@ -1,7 +1,7 @@
 // What a call does to flash. Others decide it, and are lent flash to read only; here alone a job is carried out, and the sums with it.
+use answers::Outcome;
 use flash::Addr;
 use flash::Block;
-use moves::Outcome;
 use session::Board;
 use sums::Sums;
 ghost use Prim.Native.Nat.{_≤_};
@@ -9,7 +9,7 @@ ghost use mathlib.Core.Path.{_≡_};
 ghost use lib.ListN.{length};
 ghost use Rattle.sums.specs.Sum.{Split};
 ghost use Rattle.session.specs.Session.{appEnd};
-ghost use Rattle.moves.specs.Answers.{done};
+ghost use Rattle.answers.specs.Answers.{done};
 ghost use Rattle.jobs.specs.Job.{Place, Can, planOf, sumsAfter, summed, carriedOut};
 ghost use Rattle.jobs.specs.declared.Job.{Job};
 

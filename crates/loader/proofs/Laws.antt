@@ -22,9 +22,9 @@ use Rattle.session.proofs.Tests.{left-of, right-of, either, pick-most}
 use Rattle.request.specs.Request.{requestOf, wLength, dataAsked, allowedOf}
 use Rattle.request.specs.declared.Request.{Request}
 use Rattle.stream.proofs.Laws.{next-length}
-use Rattle.moves.specs.declared.Answer.{Answer}
-use Rattle.moves.specs.declared.Outcome.{Outcome}
-use Rattle.moves.specs.Answers.{Done, Replied, outcome, done, replied, leaves}
+use Rattle.answers.specs.declared.Answer.{Answer}
+use Rattle.answers.specs.declared.Outcome.{Outcome}
+use Rattle.answers.specs.Answers.{Done, Replied, outcome, done, replied, leaves}
 use Rattle.jobs.specs.declared.Plan.{Plan}
 use Rattle.jobs.specs.declared.Job.{Job}
 use Rattle.jobs.specs.Job.{planOf, Can, carriedOut}

@@ -13,10 +13,10 @@ use Rattle.session.specs.declared.Board.{Board}
 use Rattle.session.specs.declared.Session.{Session}
 use Rattle.request.specs.Request.{requestOf, wLength, dataAsked, allowedOf}
 use Rattle.request.specs.declared.Request.{Request}
-use Rattle.moves.specs.declared.Answer.{Answer}
-use Rattle.moves.specs.declared.Outcome.{Outcome}
-use Rattle.moves.specs.Answers.{Leaves, Told, Done, Replied, outcome, leaves, told}
-use Rattle.moves.specs.Moves.{toIdle, takenOf, stallOf, unfitOf}
+use Rattle.answers.specs.declared.Answer.{Answer}
+use Rattle.answers.specs.declared.Outcome.{Outcome}
+use Rattle.answers.specs.Answers.{Leaves, Told, Done, Replied, outcome, leaves, told}
+use Rattle.answers.specs.Moves.{toIdle, takenOf, stallOf, unfitOf}
 use Rattle.loader.specs.Reply.{getstatusOf, getstateOf, queryOf}
 use Rattle.jobs.specs.declared.Plan.{Plan}
 use Rattle.jobs.specs.declared.Job.{Job}

@@ -1,13 +1,13 @@
 // The requests that answer bytes but stream none: GETSTATUS, GETSTATE and the query.
-use moves::Answer;
-use moves::Outcome;
+use answers::Answer;
+use answers::Outcome;
 use session::Phase;
 use session::Session;
 use session::State;
 ghost use Prim.Native.Nat.{_≤_};
 ghost use mathlib.Core.Path.{_≡_};
 ghost use lib.ListN.{length};
-ghost use Rattle.moves.specs.Answers.{replied};
+ghost use Rattle.answers.specs.Answers.{replied};
 ghost use Rattle.loader.specs.Reply.{answered, entered, polled, pollTime, getstatusOf, getstateOf, queryOf};
 
 // Taken, with the bytes at the front of the reply.

@@ -12,9 +12,9 @@ use Rattle.session.specs.Codes.{address}
 use Rattle.session.specs.Rules.{inApplication}
 use Rattle.session.specs.Session.{appEnd, wholeUpload, freshOf}
 use Rattle.request.specs.declared.Request.{Request}
-use Rattle.moves.specs.declared.Answer.{Answer}
-use Rattle.moves.specs.Answers.{done}
-use Rattle.moves.specs.Moves.{movedTo, faultOf, resetOf}
+use Rattle.answers.specs.declared.Answer.{Answer}
+use Rattle.answers.specs.Answers.{done}
+use Rattle.answers.specs.Moves.{movedTo, faultOf, resetOf}
 use Rattle.jobs.specs.Job.{carriedOut}
 use Rattle.command.specs.Download.{progOf, readOf, checkOf, eraseOf, infoOf, prefixFor, binOf, byNumber, pieceOf, faultPlan}
 use Rattle.loader.specs.Step.{stepOf, settled}

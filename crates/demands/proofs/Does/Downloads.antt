@@ -13,8 +13,8 @@ use Rattle.session.specs.Session.{appEnd}
 use Rattle.session.specs.Rules.{inApplication}
 use Rattle.session.proofs.Laws.{inside-facts, facts-inside, fit-near}
 use Rattle.request.specs.declared.Request.{Request}
-use Rattle.moves.specs.Answers.{leaves}
-use Rattle.moves.specs.Moves.{faultOf}
+use Rattle.answers.specs.Answers.{leaves}
+use Rattle.answers.specs.Moves.{faultOf}
 use Rattle.jobs.specs.Job.{carriedOut}
 use Rattle.command.specs.Download.{wellFormed, byNumber, commandOf, pieceOf, dnloadOf}
 use Rattle.loader.specs.Step.{served, settled, stepOf}

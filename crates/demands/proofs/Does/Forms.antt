@@ -13,8 +13,8 @@ use Rattle.session.specs.Fit.{KnownState}
 use Rattle.session.proofs.Laws.{cases-state}
 use Rattle.session.proofs.Tests.{left-of, right-of, either}
 use Rattle.numbers.specs.Numbers.{wordAt}
-use Rattle.moves.specs.Answers.{leaves}
-use Rattle.moves.specs.Moves.{stallOf}
+use Rattle.answers.specs.Answers.{leaves}
+use Rattle.answers.specs.Moves.{stallOf}
 use Rattle.request.specs.Request.{setupOf, hasForm, inForm, formOf, requestOf, wLength, allowedOf}
 use Rattle.request.specs.declared.Request.{Request}
 use Rattle.request.proofs.Laws.{form-right, form-facts, dnload-asked}

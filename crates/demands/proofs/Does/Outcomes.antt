@@ -6,9 +6,9 @@ use lib.ListN.{length, drop}
 use Rattle.session.specs.Session.{phaseOf, noDownload, upOf}
 use Rattle.session.specs.declared.Phase.{Phase}
 use Rattle.session.specs.declared.Session.{Session}
-use Rattle.moves.specs.declared.Answer.{Answer}
-use Rattle.moves.specs.Answers.{Leaves, answerNumber, outcome, leaves}
-use Rattle.moves.specs.Moves.{movedTo, rewound}
+use Rattle.answers.specs.declared.Answer.{Answer}
+use Rattle.answers.specs.Answers.{Leaves, answerNumber, outcome, leaves}
+use Rattle.answers.specs.Moves.{movedTo, rewound}
 use Rattle.loader.specs.Step.{stepOf}
 use Rattle.demands.specs.Calls.{heard, Call, Site, called}
 use Rattle.demands.specs.Asked.{Prepared}

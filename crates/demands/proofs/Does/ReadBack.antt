@@ -22,7 +22,7 @@ use Rattle.session.specs.declared.Board.{Board}
 use Rattle.session.proofs.Laws.{fit-kept, fit-facts, facts-fit, end-in-flash, inside-facts, fresh-fit, fit-near}
 use Rattle.request.specs.Request.{allowedOf}
 use Rattle.stream.specs.Stream.{headerOf}
-use Rattle.moves.specs.Moves.{movedTo}
+use Rattle.answers.specs.Moves.{movedTo}
 use Rattle.loader.specs.Reply.{entered, polled}
 use Rattle.loader.specs.Step.{stepOf}
 use Rattle.demands.specs.Calls.{Site}

@@ -12,9 +12,9 @@ use Rattle.session.proofs.Laws.{end-in-flash}
 use Rattle.request.specs.declared.Request.{Request}
 use Rattle.stream.specs.Stream.{nextOf}
 use Rattle.stream.proofs.Laws.{next-length}
-use Rattle.moves.specs.declared.Answer.{Answer}
-use Rattle.moves.specs.Answers.{Leaves, outcome, leaves}
-use Rattle.moves.specs.Moves.{faultOf, stallOf}
+use Rattle.answers.specs.declared.Answer.{Answer}
+use Rattle.answers.specs.Answers.{Leaves, outcome, leaves}
+use Rattle.answers.specs.Moves.{faultOf, stallOf}
 use Rattle.jobs.specs.Job.{carriedOut}
 use Rattle.command.specs.Download.{pieceOf, closedOf}
 use Rattle.loader.specs.Reply.{answered, entered, polled, pollTime, getstatusOf, getstateOf, queryOf}

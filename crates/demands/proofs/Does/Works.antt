@@ -17,9 +17,9 @@ use Rattle.session.specs.Rules.{running}
 use Rattle.session.specs.declared.Session.{Session}
 use Rattle.session.proofs.Laws.{end-in-flash}
 use Rattle.request.specs.declared.Request.{Request}
-use Rattle.moves.specs.declared.Answer.{Answer}
-use Rattle.moves.specs.Answers.{leaves}
-use Rattle.moves.specs.Moves.{movedTo, toSync, takenOf}
+use Rattle.answers.specs.declared.Answer.{Answer}
+use Rattle.answers.specs.Answers.{leaves}
+use Rattle.answers.specs.Moves.{movedTo, toSync, takenOf}
 use Rattle.jobs.specs.Job.{sumsAfter, carriedOut, wipeDone, sumsWiped}
 use Rattle.command.specs.Download.{progOf, eraseOf, byNumber, pieceOf}
 use Rattle.loader.specs.Step.{withReply, stepOf, settled}

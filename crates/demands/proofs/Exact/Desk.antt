@@ -15,9 +15,9 @@ use Rattle.session.specs.Session.{boardOf, phaseOf, downOf, appEnd, streamLengt
 use Rattle.session.specs.Rules.{fitOf}
 use Rattle.session.specs.declared.Session.{Session}
 use Rattle.request.specs.Request.{setupOf, formOf, requestOf, wLength, dataAsked, allowedOf}
-use Rattle.moves.specs.declared.Answer.{Answer}
-use Rattle.moves.specs.Answers.{Leaves, outcome, leaves}
-use Rattle.moves.specs.Moves.{movedTo, stallOf, faultOf}
+use Rattle.answers.specs.declared.Answer.{Answer}
+use Rattle.answers.specs.Answers.{Leaves, outcome, leaves}
+use Rattle.answers.specs.Moves.{movedTo, stallOf, faultOf}
 use Rattle.jobs.specs.Job.{sumsAfter, carriedOut, wipeDone, bytesDone, sumsWiped}
 use Rattle.command.specs.Download.{allErased, progOf, eraseOf, wellFormed, wroteOf}
 use Rattle.command.specs.Download.{byNumber, commandOf, closedOf, pieceOf, dnloadOf}

@@ -21,7 +21,7 @@ use Rattle.session.specs.declared.Upload.{Upload}
 use Rattle.session.proofs.Laws.{facts-fit}
 use Rattle.request.specs.Request.{setupOf, dataAsked}
 use Rattle.request.specs.declared.Request.{Request}
-use Rattle.moves.specs.Moves.{stallOf}
+use Rattle.answers.specs.Moves.{stallOf}
 use Rattle.loader.specs.Step.{startOutcome, stepOf}
 use Rattle.demands.specs.Calls.{Step, Call, Site, begun, called, next, after}
 use Rattle.demands.specs.Safe.Fit.{AllowedStart}

@@ -1,8 +1,8 @@
 -- No second outcome fits: each promise determines what a call leaves. Assumes nothing.
 use Prim.Native.Nat.{ℕ, zero, suc}
 use mathlib.Core.Path.{_≡_, refl, sym, ap, _∙_}
-use Rattle.moves.specs.declared.Answer.{Answer}
-use Rattle.moves.specs.Answers.{answerNumber}
+use Rattle.answers.specs.declared.Answer.{Answer}
+use Rattle.answers.specs.Answers.{answerNumber}
 use Rattle.demands.specs.Exact.OneOutcome.{OneOutcome}
 
 -- the answer of a number

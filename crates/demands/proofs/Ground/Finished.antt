@@ -8,8 +8,8 @@ use Rattle.sums.specs.Sum.{refreshed}
 use Rattle.session.specs.Codes.{idle, downloadIdle}
 use Rattle.session.specs.Session.{appEnd, downOf, noDownload, withSums}
 use Rattle.session.specs.declared.Session.{Session}
-use Rattle.moves.specs.Answers.{Leaves, Done, Replied, done, leaves}
-use Rattle.moves.specs.Moves.{movedTo, toSync, takenOf}
+use Rattle.answers.specs.Answers.{Leaves, Done, Replied, done, leaves}
+use Rattle.answers.specs.Moves.{movedTo, toSync, takenOf}
 use Rattle.jobs.specs.declared.Plan.{Plan}
 use Rattle.jobs.specs.Job.{planOf, wipeOf, sumsAfter, sumsWiped, bytesDone, wipeDone, carriedOut}
 use Rattle.command.specs.Download.{wroteOf}

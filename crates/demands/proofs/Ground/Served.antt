@@ -1,8 +1,8 @@
 -- What a call leaves once it is known to be sound and allowed, or not. Assumes nothing.
 use mathlib.Core.Bool.{true, false}
 use mathlib.Core.Path.{_≡_}
-use Rattle.moves.specs.Answers.{Leaves, leaves}
-use Rattle.moves.specs.Moves.{stallOf}
+use Rattle.answers.specs.Answers.{Leaves, leaves}
+use Rattle.answers.specs.Moves.{stallOf}
 use Rattle.request.specs.Request.{requestOf, wLength, allowedOf}
 use Rattle.jobs.specs.Job.{carriedOut}
 use Rattle.loader.specs.Step.{served, decidedOf, settled, stepOf}

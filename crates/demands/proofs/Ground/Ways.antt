@@ -19,9 +19,9 @@ use Rattle.session.proofs.Tests.{left-of, right-of, unless}
 use Rattle.request.specs.Commands.{prog, read, check, erase, info, bin, reset}
 use Rattle.request.specs.Request.{wLength, requestOf, allowedOf}
 use Rattle.request.specs.declared.Request.{Request}
-use Rattle.moves.specs.declared.Outcome.{Outcome}
-use Rattle.moves.specs.Answers.{Leaves, leaves}
-use Rattle.moves.specs.Moves.{movedTo, toIdle, toSync, takenOf, stallOf, unfitOf, faultOf, resetOf}
+use Rattle.answers.specs.declared.Outcome.{Outcome}
+use Rattle.answers.specs.Answers.{Leaves, leaves}
+use Rattle.answers.specs.Moves.{movedTo, toIdle, toSync, takenOf, stallOf, unfitOf, faultOf, resetOf}
 use Rattle.jobs.specs.declared.Plan.{Plan}
 use Rattle.jobs.specs.declared.Job.{Job}
 use Rattle.jobs.specs.Job.{planOf, carriedOut}

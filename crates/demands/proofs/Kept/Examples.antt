@@ -6,7 +6,7 @@ use Rattle.flash.specs.Flash.{blank, range, spliced, firstIn, searched}
 use Rattle.session.specs.Session.{appEnd, streamLength, wholeUpload, freshOf}
 use Rattle.session.specs.Rules.{fitOf}
 use Rattle.request.specs.Request.{formOf, setupOf, dataAsked, allowedOf}
-use Rattle.moves.specs.Moves.{movedTo}
+use Rattle.answers.specs.Moves.{movedTo}
 use Rattle.jobs.specs.Job.{sumsAfter, carriedOut, bytesDone}
 use Rattle.command.specs.Download.{allErased, progOf, wellFormed, byNumber, commandOf, pieceOf, dnloadOf, wroteOf}
 use Rattle.loader.specs.Reply.{answered, entered, polled, pollTime, getstatusOf}

@@ -19,9 +19,9 @@ use Rattle.session.specs.declared.Board.{Board}
 use Rattle.session.specs.declared.Session.{Session}
 use Rattle.session.proofs.Laws.{inside-facts}
 use Rattle.numbers.specs.Numbers.{wordAt, longAt}
-use Rattle.moves.specs.declared.Outcome.{Outcome}
-use Rattle.moves.specs.Answers.{Leaves, Told}
-use Rattle.moves.specs.Moves.{movedTo, stallOf, unfitOf, faultOf, resetOf}
+use Rattle.answers.specs.declared.Outcome.{Outcome}
+use Rattle.answers.specs.Answers.{Leaves, Told}
+use Rattle.answers.specs.Moves.{movedTo, stallOf, unfitOf, faultOf, resetOf}
 use Rattle.jobs.specs.Job.{Place, sumsAfter}
 use Rattle.command.specs.Ready.{Ready}
 use Rattle.command.specs.Download.{infoOf, binOf}

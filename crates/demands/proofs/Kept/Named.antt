@@ -21,9 +21,9 @@ use Rattle.session.proofs.Tests.{right-of, either}
 use Rattle.numbers.specs.Numbers.{wordAt, longAt}
 use Rattle.request.specs.Request.{requestOf}
 use Rattle.request.specs.declared.Request.{Request}
-use Rattle.moves.specs.declared.Outcome.{Outcome}
-use Rattle.moves.specs.Answers.{Leaves, Told}
-use Rattle.moves.specs.Moves.{movedTo, stallOf, unfitOf, faultOf, resetOf}
+use Rattle.answers.specs.declared.Outcome.{Outcome}
+use Rattle.answers.specs.Answers.{Leaves, Told}
+use Rattle.answers.specs.Moves.{movedTo, stallOf, unfitOf, faultOf, resetOf}
 use Rattle.command.specs.Download.{infoOf, binOf}
 use Rattle.command.proofs.Laws.{pick, ready-within, ready-range}
 use Rattle.loader.specs.Reply.{entered, polled, getstatusOf, getstateOf, queryOf, answered}

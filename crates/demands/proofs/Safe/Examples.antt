@@ -14,7 +14,7 @@ use Rattle.session.proofs.Laws.{fit-facts, fresh-fit}
 use Rattle.numbers.specs.Numbers.{wordAt}
 use Rattle.request.specs.Request.{allowedOf, formOf, setupOf}
 use Rattle.request.specs.declared.Request.{Request}
-use Rattle.moves.specs.Moves.{stallOf, faultOf, resetOf}
+use Rattle.answers.specs.Moves.{stallOf, faultOf, resetOf}
 use Rattle.jobs.specs.Job.{carriedOut}
 use Rattle.command.specs.Download.{wellFormed, byNumber, commandOf, dnloadOf}
 use Rattle.loader.specs.Step.{served, stepOf, settled}

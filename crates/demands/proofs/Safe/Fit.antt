@@ -28,10 +28,10 @@ use Rattle.session.proofs.Tests.{left-of, right-of, or-unless, where-true, pick
 use Rattle.numbers.specs.Numbers.{wordAt, longAt}
 use Rattle.request.specs.Request.{wLength}
 use Rattle.stream.proofs.Laws.{next-length}
-use Rattle.moves.specs.declared.Answer.{Answer}
-use Rattle.moves.specs.declared.Outcome.{Outcome}
-use Rattle.moves.specs.Answers.{Leaves, answerNumber, outcome, Told, told}
-use Rattle.moves.specs.Moves.{rewound, movedTo, toIdle, toError, stallOf, unfitOf, faultOf, resetOf}
+use Rattle.answers.specs.declared.Answer.{Answer}
+use Rattle.answers.specs.declared.Outcome.{Outcome}
+use Rattle.answers.specs.Answers.{Leaves, answerNumber, outcome, Told, told}
+use Rattle.answers.specs.Moves.{rewound, movedTo, toIdle, toError, stallOf, unfitOf, faultOf, resetOf}
 use Rattle.jobs.specs.Job.{Place}
 use Rattle.command.specs.Ready.{Ready}
 use Rattle.command.specs.Download.{infoOf, binOf, prefixFor}

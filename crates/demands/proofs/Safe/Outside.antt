@@ -14,12 +14,12 @@ use Rattle.session.specs.declared.Board.{Board}
 use Rattle.session.specs.declared.Session.{Session}
 use Rattle.session.proofs.Laws.{fit-facts}
 use Rattle.numbers.specs.Numbers.{wordAt, longAt}
-use Rattle.moves.specs.Answers.{Leaves}
+use Rattle.answers.specs.Answers.{Leaves}
 use Rattle.jobs.specs.Job.{Place}
 use Rattle.command.specs.Ready.{Ready}
 use Rattle.command.specs.Download.{infoOf, binOf}
 use Rattle.command.proofs.Laws.{ready-within, ready-place}
-use Rattle.moves.specs.Moves.{stallOf, unfitOf, faultOf, resetOf}
+use Rattle.answers.specs.Moves.{stallOf, unfitOf, faultOf, resetOf}
 use Rattle.loader.specs.Reply.{getstatusOf, getstateOf, queryOf, answered}
 use Rattle.loader.specs.Upload.{uploadOf}
 use Rattle.loader.specs.Step.{stepOf}

@@ -14,8 +14,8 @@ use Rattle.session.specs.declared.Upload.{Upload}
 use Rattle.session.specs.declared.Session.{Session}
 use Rattle.request.specs.Request.{wLength, requestOf, allowedOf}
 use Rattle.request.specs.declared.Request.{Request}
-use Rattle.moves.specs.Answers.{Leaves, leaves}
-use Rattle.moves.specs.Moves.{movedTo, toError, stallOf, unfitOf, faultOf, resetOf}
+use Rattle.answers.specs.Answers.{Leaves, leaves}
+use Rattle.answers.specs.Moves.{movedTo, toError, stallOf, unfitOf, faultOf, resetOf}
 use Rattle.jobs.specs.Job.{carriedOut}
 use Rattle.command.specs.Download.{infoOf, binOf}
 use Rattle.command.proofs.Laws.{pick}

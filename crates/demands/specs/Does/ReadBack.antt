@@ -11,7 +11,7 @@ use Rattle.session.specs.Session.{downOf}
 use Rattle.session.specs.Fit.{Fit}
 use Rattle.numbers.specs.Numbers.{bytes2, bytes4}
 use Rattle.request.specs.Commands.{prog, read, erase}
-use Rattle.moves.specs.Answers.{Leaves}
+use Rattle.answers.specs.Answers.{Leaves}
 use Rattle.demands.specs.Calls.{Step, heard, Call, Site, called, next}
 use Rattle.demands.specs.Does.Commands.{Legal}
 

@@ -5,7 +5,7 @@ use mathlib.Core.Path.{_≡_}
 use lib.ListN.{replicate}
 use Rattle.sums.specs.Sum.{mostBlocks, Right}
 use Rattle.session.specs.Session.{boardOf, appEnd, phaseOf, downOf, upOf}
-use Rattle.moves.specs.Answers.{Told}
+use Rattle.answers.specs.Answers.{Told}
 use Rattle.demands.specs.Calls.{Start}
 use Rattle.demands.specs.Safe.Fit.{AllowedStart}
 

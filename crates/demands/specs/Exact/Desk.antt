@@ -4,7 +4,7 @@ use mathlib.Core.List.{List, [], _∷_, _++_}
 use mathlib.Core.Path.{_≡_}
 use lib.ListN.{length, drop}
 use Rattle.flash.specs.Flash.{startOf, spliced, erased}
-use Rattle.moves.specs.Answers.{Leaves}
+use Rattle.answers.specs.Answers.{Leaves}
 use Rattle.demands.specs.Calls.{Start, Step, heard, Call, Site, begun, called, after}
 
 -- one example: where it starts, the calls that lead up to it, the call, and what is expected of it: the answer's number, the state

@@ -2,7 +2,7 @@
 use Prim.Native.Nat.{ℕ}
 use mathlib.Core.List.{List}
 use mathlib.Core.Path.{_≡_}
-use Rattle.moves.specs.Answers.{Leaves, Told}
+use Rattle.answers.specs.Answers.{Leaves, Told}
 use Rattle.loader.specs.Step.{startOutcome, stepOf}
 use Rattle.demands.specs.Calls.{Start, Step, heard, Call, begun, called, after}
 use Rattle.demands.specs.Demands.{MeetsDemands}

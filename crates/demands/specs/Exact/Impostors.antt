@@ -10,8 +10,8 @@ use Rattle.sums.specs.declared.Sums.{Sums}
 use Rattle.session.specs.Session.{withSums}
 use Rattle.session.specs.declared.Session.{Session}
 use Rattle.numbers.specs.Numbers.{wordAt}
-use Rattle.moves.specs.Answers.{Leaves, leaves}
-use Rattle.moves.specs.Moves.{takenOf, stallOf}
+use Rattle.answers.specs.Answers.{Leaves, leaves}
+use Rattle.answers.specs.Moves.{takenOf, stallOf}
 use Rattle.loader.specs.Step.{startOutcome, stepOf}
 use Rattle.demands.specs.Calls.{Start, Step, Call, Site, begun, after}
 use Rattle.demands.specs.Does.Rows.{RowsAt}

@@ -4,9 +4,8 @@ use mathlib.Core.List.{List}
 use mathlib.Core.Path.{_≡_}
 use Rattle.numbers.specs.Numbers.{wordAt}
 use Rattle.stream.specs.Stream.{Sent}
-use Rattle.moves.specs.declared.Answer.{Answer}
-use Rattle.moves.specs.Answers.{answerNumber}
-use Rattle.demands.specs.Calls.{after}
+use Rattle.answers.specs.declared.Answer.{Answer}
+use Rattle.answers.specs.Answers.{answerNumber}
 
 -- no second outcome fits, on the refused inputs too
 pub record OneOutcome : Type 1 where

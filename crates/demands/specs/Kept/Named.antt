@@ -11,7 +11,7 @@ use Rattle.session.specs.declared.Session.{Session}
 use Rattle.numbers.specs.Numbers.{wordAt, longAt}
 use Rattle.request.specs.Request.{requestOf}
 use Rattle.request.specs.declared.Request.{Request}
-use Rattle.moves.specs.Answers.{Leaves}
+use Rattle.answers.specs.Answers.{Leaves}
 use Rattle.demands.specs.Calls.{Start, Step, heard, Call, Site, begun, called, next, after}
 use Rattle.demands.specs.Safe.Fit.{AllowedStart}
 

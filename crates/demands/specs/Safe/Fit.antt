@@ -7,7 +7,7 @@ use Rattle.flash.specs.Flash.{startOf}
 use Rattle.sums.specs.Sum.{mostBlocks}
 use Rattle.session.specs.Session.{zerosOf}
 use Rattle.session.specs.Fit.{Fit}
-use Rattle.moves.specs.Answers.{Told}
+use Rattle.answers.specs.Answers.{Told}
 use Rattle.demands.specs.Calls.{Start, Step, heard, Call, Site, called, next}
 use Rattle.demands.specs.Safe.Refused.{Unfit}
 

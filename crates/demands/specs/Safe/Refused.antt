@@ -6,7 +6,7 @@ use Rattle.flash.specs.Flash.{startOf}
 use Rattle.session.specs.Session.{appEnd}
 use Rattle.session.specs.declared.Session.{Session}
 use Rattle.request.specs.declared.Request.{Request}
-use Rattle.moves.specs.Answers.{Leaves}
+use Rattle.answers.specs.Answers.{Leaves}
 use Rattle.demands.specs.Calls.{Step, heard, Call, Site, called}
 use Rattle.demands.specs.Asked.{stateOf, Prepared, Form, Allowed, NoRequest}
 

@@ -10,9 +10,9 @@ use lib.ListN.{length, take}
 use Rattle.session.specs.declared.Session.{Session}
 use Rattle.request.specs.declared.Request.{Request}
 use Rattle.request.specs.Request.{setupOf, formOf, requestOf, wLength, dataAsked, allowedOf}
-use Rattle.moves.specs.declared.Answer.{Answer}
-use Rattle.moves.specs.Answers.{Leaves, outcome, leaves}
-use Rattle.moves.specs.Moves.{toIdle, takenOf}
+use Rattle.answers.specs.declared.Answer.{Answer}
+use Rattle.answers.specs.Answers.{Leaves, outcome, leaves}
+use Rattle.answers.specs.Moves.{toIdle, takenOf}
 use Rattle.jobs.specs.Job.{carriedOut}
 use Rattle.command.specs.Ready.{Ready}
 use Rattle.command.specs.Download.{dnloadOf}

@@ -23,8 +23,8 @@ use Rattle.numbers.specs.Numbers.{wordAt, longAt}
 use Rattle.numbers.proofs.Laws.{four-bytes}
 use Rattle.request.specs.Request.{allowedOf}
 use Rattle.stream.specs.Stream.{headerOf}
-use Rattle.moves.specs.Answers.{Done, leaves}
-use Rattle.moves.specs.Moves.{movedTo, takenOf}
+use Rattle.answers.specs.Answers.{Done, leaves}
+use Rattle.answers.specs.Moves.{movedTo, takenOf}
 use Rattle.jobs.specs.Job.{sumsAfter, carriedOut}
 use Rattle.jobs.specs.declared.Plan.{Plan}
 use Rattle.command.specs.Download.{nothing, allErased, progOf, wellFormed, byNumber, pieceOf, dnloadOf}

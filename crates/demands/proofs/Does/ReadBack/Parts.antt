@@ -18,8 +18,8 @@ use Rattle.session.proofs.Laws.{fit-kept, split-facts, end-in-flash, inside-fac
 use Rattle.numbers.specs.Numbers.{wordAt, longAt}
 use Rattle.numbers.proofs.Laws.{four-bytes}
 use Rattle.request.specs.Request.{allowedOf}
-use Rattle.moves.specs.Answers.{Done, leaves}
-use Rattle.moves.specs.Moves.{movedTo, toSync, takenOf}
+use Rattle.answers.specs.Answers.{Done, leaves}
+use Rattle.answers.specs.Moves.{movedTo, toSync, takenOf}
 use Rattle.jobs.specs.Job.{carriedOut, wipeDone, sumsWiped}
 use Rattle.jobs.specs.declared.Plan.{Plan}
 use Rattle.command.specs.Ready.{Ready}

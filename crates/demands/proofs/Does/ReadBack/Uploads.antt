@@ -16,7 +16,7 @@ use Rattle.session.specs.declared.Session.{Session}
 use Rattle.request.specs.declared.Request.{Request}
 use Rattle.request.specs.Request.{allowedOf}
 use Rattle.stream.specs.Stream.{nextOf, streamOf}
-use Rattle.moves.specs.Answers.{Replied}
+use Rattle.answers.specs.Answers.{Replied}
 use Rattle.command.specs.Ready.{Ready}
 use Rattle.loader.specs.Reply.{answered}
 use Rattle.loader.specs.Upload.{placeOf, answerOf, uploadEnds, uploadingAt, uploadedOf, uploadOf}

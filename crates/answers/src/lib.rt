@@ -8,8 +8,8 @@ ghost use mathlib.Core.Path.{_≡_};
 ghost use mathlib.Core.Bool.{true};
 ghost use Rattle.session.specs.Session.{phaseOf, downOf};
 ghost use Rattle.session.specs.Rules.{fitOf};
-ghost use Rattle.moves.specs.Answers.{answerNumber};
-ghost use Rattle.moves.specs.Moves.{movedTo, toIdle, toError, toSync, takenOf, stallOf, unfitOf, faultOf, resetOf};
+ghost use Rattle.answers.specs.Answers.{answerNumber};
+ghost use Rattle.answers.specs.Moves.{movedTo, toIdle, toError, toSync, takenOf, stallOf, unfitOf, faultOf, resetOf};
 
 // What the host hears.
 pub enum Answer {

@@ -1,9 +1,9 @@
 -- By whether the state is error. Assumes nothing.
-use Rattle.moves.specs.Moves.{stallOf}
+use Rattle.answers.specs.Moves.{stallOf}
 use borrow.Author.Tests.{eq-eqb, ne-eqb}
 use borrow.Author.Needs.{needs}
-use Rattle.moves.proofs.stalled.Statement.{statement}
-use Rattle.moves.proofs.stalled.Tie as tie
+use Rattle.answers.proofs.stalled.Statement.{statement}
+use Rattle.answers.proofs.stalled.Tie as tie
 
 returns : tie.Need-returns
 unfolding stallOf

@@ -1,8 +1,8 @@
 -- By the definition. Assumes nothing.
 use mathlib.Core.Path.{refl}
-use Rattle.moves.specs.Moves.{unfitOf}
-use Rattle.moves.proofs.unfit.Statement.{statement}
-use Rattle.moves.proofs.unfit.Tie as tie
+use Rattle.answers.specs.Moves.{unfitOf}
+use Rattle.answers.proofs.unfit.Statement.{statement}
+use Rattle.answers.proofs.unfit.Tie as tie
 
 returns : tie.Need-returns
 unfolding unfitOf

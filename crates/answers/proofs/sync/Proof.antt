@@ -1,7 +1,7 @@
 -- `moved` to that state, with no download. Assumes nothing.
 use borrow.Author.Needs.{needs}
-use Rattle.moves.proofs.error.Statement.{statement}
-use Rattle.moves.proofs.error.Tie as tie
+use Rattle.answers.proofs.sync.Statement.{statement}
+use Rattle.answers.proofs.sync.Tie as tie
 
 none-requires : tie.Need-none-requires
 none-requires c κs = search needs
@@ -12,5 +12,5 @@ moved-requires c κs = search needs
 returns : tie.Need-returns
 returns c = cc
 
-pub error-spec : {M : Type 1} → statement M
-error-spec = tie.close (tie.spec none-requires moved-requires returns)
+pub sync-spec : {M : Type 1} → statement M
+sync-spec = tie.close (tie.spec none-requires moved-requires returns)

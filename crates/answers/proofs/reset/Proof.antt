@@ -1,11 +1,11 @@
 -- A fit session has a split that a start allows. Assumes nothing.
 use mathlib.Core.Path.{ap}
 use Rattle.session.proofs.Laws.{fit-kept}
-use Rattle.moves.specs.Answers.{outcome}
-use Rattle.moves.specs.declared.Answer.{Answer}
-use Rattle.moves.specs.Moves.{resetOf}
-use Rattle.moves.proofs.reset.Statement.{statement}
-use Rattle.moves.proofs.reset.Tie as tie
+use Rattle.answers.specs.Answers.{outcome}
+use Rattle.answers.specs.declared.Answer.{Answer}
+use Rattle.answers.specs.Moves.{resetOf}
+use Rattle.answers.proofs.reset.Statement.{statement}
+use Rattle.answers.proofs.reset.Tie as tie
 
 fresh-requires : tie.Need-fresh-requires
 fresh-requires c κs = fit-kept _ (c .before .before .pre) .split

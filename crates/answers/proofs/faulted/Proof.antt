@@ -1,8 +1,8 @@
 -- `error` with the status. Assumes nothing.
-use Rattle.moves.specs.Moves.{faultOf}
+use Rattle.answers.specs.Moves.{faultOf}
 use borrow.Author.Needs.{needs}
-use Rattle.moves.proofs.faulted.Statement.{statement}
-use Rattle.moves.proofs.faulted.Tie as tie
+use Rattle.answers.proofs.faulted.Statement.{statement}
+use Rattle.answers.proofs.faulted.Tie as tie
 
 error-requires : tie.Need-error-requires
 error-requires c κs = search needs

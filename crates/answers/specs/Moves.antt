@@ -8,9 +8,9 @@ use Rattle.session.specs.declared.Phase.{Phase}
 use Rattle.session.specs.declared.Download.{Download}
 use Rattle.session.specs.declared.Upload.{Upload}
 use Rattle.session.specs.declared.Session.{Session}
-use Rattle.moves.specs.declared.Answer.{Answer}
-use Rattle.moves.specs.declared.Outcome.{Outcome}
-use Rattle.moves.specs.Answers.{outcome}
+use Rattle.answers.specs.declared.Answer.{Answer}
+use Rattle.answers.specs.declared.Outcome.{Outcome}
+use Rattle.answers.specs.Answers.{outcome}
 
 -- an upload with its place at the stream's first byte; choice, range and prefix flag stay
 abbrev pub rewound : Upload → Upload

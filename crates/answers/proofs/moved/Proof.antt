@@ -1,8 +1,8 @@
 -- The fields written are those of the definition. Assumes nothing.
 use mathlib.Core.Path.{refl}
-use Rattle.moves.specs.Moves.{movedTo}
-use Rattle.moves.proofs.moved.Statement.{statement}
-use Rattle.moves.proofs.moved.Tie as tie
+use Rattle.answers.specs.Moves.{movedTo}
+use Rattle.answers.proofs.moved.Statement.{statement}
+use Rattle.answers.proofs.moved.Tie as tie
 
 returns : tie.Need-returns
 unfolding movedTo

@@ -1,7 +1,7 @@
 -- `moved` to that state, with no download. Assumes nothing.
 use borrow.Author.Needs.{needs}
-use Rattle.moves.proofs.idle.Statement.{statement}
-use Rattle.moves.proofs.idle.Tie as tie
+use Rattle.answers.proofs.idle.Statement.{statement}
+use Rattle.answers.proofs.idle.Tie as tie
 
 none-requires : tie.Need-none-requires
 none-requires c κs = search needs
