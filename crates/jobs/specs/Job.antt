@@ -71,7 +71,7 @@ wipeDone o flash first count =
     (erased flash first count)
 
 -- an outcome once its job is carried out: the flash with the job's stores, and the sums of the blocks that they touch anew
-unfoldable pub carriedOut : Job → Outcome → List ℕ → List ℕ → Done
-carriedOut Nothing o flash d = done o flash
-carriedOut (Bytes at skip) o flash d = bytesDone o flash (at .0) (drop skip d)
-carriedOut (Wipe first count) o flash d = wipeDone o flash (first .0) count
+unfoldable pub jobDone : Job → Outcome → List ℕ → List ℕ → Done
+jobDone Nothing o flash d = done o flash
+jobDone (Bytes at skip) o flash d = bytesDone o flash (at .0) (drop skip d)
+jobDone (Wipe first count) o flash d = wipeDone o flash (first .0) count

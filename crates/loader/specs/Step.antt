@@ -20,7 +20,7 @@ use Rattle.answers.specs.Moves.{toIdle, takenOf, stallOf, unfitOf}
 use Rattle.loader.specs.Reply.{getstatusOf, getstateOf, queryOf}
 use Rattle.jobs.specs.declared.Plan.{Plan}
 use Rattle.jobs.specs.declared.Job.{Job}
-use Rattle.jobs.specs.Job.{planOf, storesFor, carriedOut}
+use Rattle.jobs.specs.Job.{planOf, storesFor, jobDone}
 use Rattle.command.specs.Ready.{Ready}
 use Rattle.command.specs.Download.{dnloadOf}
 use Rattle.loader.specs.Upload.{uploadOf}
@@ -95,7 +95,7 @@ withReply x reply = leaves (x .outcome) (x .flash) reply
 
 -- what was decided, once it is carried out
 unfoldable pub settled : Decided → List ℕ → List ℕ → Leaves
-settled x flash d = withReply (carriedOut (x .plan .job) (x .plan .outcome) flash d) (x .reply)
+settled x flash d = withReply (jobDone (x .plan .job) (x .plan .outcome) flash d) (x .reply)
 
 -- a request: decided, then carried out
 unfoldable pub stepOf : Session → List ℕ → List ℕ → List ℕ → List ℕ → Leaves

@@ -55,7 +55,7 @@ fn is_ready(s: Session, flash_len: usize, setup: &[u8], data_len: usize, reply_l
     (setup.len() == 8)
         & (1024 <= reply_len)
         & s.board.b.ends(flash_len)
-        & (data_len == request::asked(setup) as usize)
+        & (data_len == request::data_asked(setup) as usize)
         & session::fit(s)
 }
 

@@ -15,7 +15,7 @@ use Rattle.request.specs.declared.Request.{Request}
 use Rattle.answers.specs.declared.Answer.{Answer}
 use Rattle.answers.specs.Answers.{done}
 use Rattle.answers.specs.Moves.{movedTo, faultOf, resetOf}
-use Rattle.jobs.specs.Job.{carriedOut}
+use Rattle.jobs.specs.Job.{jobDone}
 use Rattle.command.specs.Download.{progOf, readOf, checkOf, eraseOf, infoOf, prefixFor, binOf, byNumber, pieceOf, faultPlan}
 use Rattle.loader.specs.Step.{stepOf, settled}
 use Rattle.demands.specs.Calls.{Call, Site}
@@ -30,14 +30,14 @@ use Rattle.demands.proofs.Does.Works.{legal-fits}
 
 module _ (at : Site) (c : Call) (block len : ℕ) (k : Commanded at c 2 8) (range : Named c block len) where
   read-done : Legal at block len → Chooses stepOf at c 0 3 0 (at .session .up .«prefix») block len
-  unfolding byNumber settled carriedOut readOf movedTo
+  unfolding byNumber settled jobDone readOf movedTo
   read-done legal =
       so-chooses at c Answer.Taken 3 0 (at .session .up .«prefix») block len _ refl refl refl refl refl
       (command-leaves at c 2 8 k (omega arith) (omega arith) (omega arith) (inr refl)
       ∙ rw (range .block-is, range .len-is, legal-in at block len (legal-near at c (k .asks .prepared)) legal))
 
   read-range : (Legal at block len → ⊥) → Moves stepOf at c 3 [] 10 0x08
-  unfolding byNumber settled carriedOut readOf faultOf
+  unfolding byNumber settled jobDone readOf faultOf
   read-range none =
       so-moves at c Answer.Faulted [] 10 0x08
       (command-leaves at c 2 8 k (omega arith) (omega arith) (omega arith) (inr refl)
@@ -45,7 +45,7 @@ module _ (at : Site) (c : Call) (block len : ℕ) (k : Commanded at c 2 8) (rang
 
 module _ (at : Site) (c : Call) (block len : ℕ) (k : Commanded at c 3 8) (range : Named c block len) where
   check-done : Legal at block len → Blank at block len → Moves stepOf at c 0 [] 3 0
-  unfolding byNumber settled carriedOut checkOf
+  unfolding byNumber settled jobDone checkOf
   check-done legal blank =
       so-moves at c Answer.Taken [] 3 0
       (command-leaves at c 3 8 k (omega arith) (omega arith) (omega arith) (inr refl)
@@ -57,14 +57,14 @@ module _ (at : Site) (c : Call) (block len : ℕ) (k : Commanded at c 3 8) (rang
       ))
 
   check-range : (Legal at block len → ⊥) → Moves stepOf at c 3 [] 10 0x08
-  unfolding byNumber settled carriedOut checkOf faultOf
+  unfolding byNumber settled jobDone checkOf faultOf
   check-range none =
       so-moves at c Answer.Faulted [] 10 0x08
       (command-leaves at c 3 8 k (omega arith) (omega arith) (omega arith) (inr refl)
       ∙ rw (range .block-is, range .len-is, illegal-out at block len none))
 
   check-unerased : Legal at block len → NotBlank at block len → Moves stepOf at c 3 [] 10 0x05
-  unfolding byNumber settled carriedOut checkOf faultOf
+  unfolding byNumber settled jobDone checkOf faultOf
   check-unerased legal some =
       so-moves at c Answer.Faulted [] 10 0x05
       (command-leaves at c 3 8 k (omega arith) (omega arith) (omega arith) (inr refl)
@@ -78,7 +78,7 @@ module _ (at : Site) (c : Call) (block len : ℕ) (k : Commanded at c 3 8) (rang
 erase-range :
     (at : Site) (c : Call) (block count : ℕ) → Commanded at c 4 8 → Counted c block count → (Legal at block (startOf count) → ⊥)
     → Moves stepOf at c 3 [] 10 0x08
-unfolding byNumber settled carriedOut eraseOf faultOf
+unfolding byNumber settled jobDone eraseOf faultOf
 erase-range at c block count k range none =
     so-moves at c Answer.Faulted [] 10 0x08
     (command-leaves at c 4 8 k (omega arith) (omega arith) (omega arith) (inr refl)
@@ -86,7 +86,7 @@ erase-range at c block count k range none =
 
 module _ (at : Site) (c : Call) where
   info-done : Commanded at c 5 8 → Chooses stepOf at c 0 3 1 (at .session .up .«prefix») (at .session .up .first .0) (at .session .up .len)
-  unfolding byNumber settled carriedOut infoOf movedTo
+  unfolding byNumber settled jobDone infoOf movedTo
   info-done k =
       so-chooses at c Answer.Taken 3 1 (at .session .up .«prefix») (at .session .up .first .0) (at .session .up .len) _
       refl refl refl refl refl
@@ -95,7 +95,7 @@ module _ (at : Site) (c : Call) where
   bin-off :
       Commanded at c 6 8 → (getD (c .bytes) 1 0 ≡ 0 → ⊥)
       → Chooses stepOf at c 0 3 (at .session .up .choice) 0 (at .session .up .first .0) (at .session .up .len)
-  unfolding byNumber settled carriedOut binOf prefixFor movedTo
+  unfolding byNumber settled jobDone binOf prefixFor movedTo
   bin-off k ne =
       so-chooses at c Answer.Taken 3 (at .session .up .choice) 0 (at .session .up .first .0) (at .session .up .len) _
       refl refl refl refl refl
@@ -104,7 +104,7 @@ module _ (at : Site) (c : Call) where
   bin-on :
       Commanded at c 6 8 → getD (c .bytes) 1 0 ≡ 0
       → Chooses stepOf at c 0 3 (at .session .up .choice) 1 (at .session .up .first .0) (at .session .up .len)
-  unfolding byNumber settled carriedOut binOf prefixFor movedTo
+  unfolding byNumber settled jobDone binOf prefixFor movedTo
   bin-on k e =
       so-chooses at c Answer.Taken 3 (at .session .up .choice) 1 (at .session .up .first .0) (at .session .up .len) _
       refl refl refl refl refl
@@ -113,7 +113,7 @@ module _ (at : Site) (c : Call) where
   reset-done :
       Commanded at c 7 8
       → Chooses stepOf at c 4 2 0 1 (at .session .board .a .0) ((appEnd (at .session .board) - at .session .board .a .0) * 1024)
-  unfolding byNumber settled carriedOut resetOf freshOf wholeUpload
+  unfolding byNumber settled jobDone resetOf freshOf wholeUpload
   reset-done k =
       so-chooses at c Answer.ResetAsked 2 0 1 (at .session .board .a .0) ((appEnd (at .session .board) - at .session .board .a .0) * 1024) _
       refl refl refl refl refl
@@ -126,7 +126,7 @@ module _ (at : Site) (c : Call) where
   piece-data :
       (n : ℕ) → Asks at c Request.Dnload n → at .session .phase .state .0 ≡ 5 → at .session .down .left < n
       → Moves stepOf at c 3 [] 10 0x08
-  unfolding pieceOf settled carriedOut faultOf
+  unfolding pieceOf settled jobDone faultOf
   piece-data n k loading lt =
       let is = asks-brings at c n k in
       so-moves at c Answer.Faulted [] 10 0x08
@@ -141,7 +141,7 @@ module _ (at : Site) (c : Call) (block len n : ℕ) (k : Commanded at c 1 n) whe
   first-long = ap (λ (m : ℕ). m - 8) (asks-brings at c n (k .asks))
 
   prog-range : 8 ≤ n → Named c block len → (Legal at block len → ⊥) → Moves stepOf at c 3 [] 10 0x08
-  unfolding byNumber settled carriedOut progOf faultOf
+  unfolding byNumber settled jobDone progOf faultOf
   prog-range long range none =
       so-moves at c Answer.Faulted [] 10 0x08
       (command-leaves at c 1 n k long (omega arith) (omega arith) (inl refl)
@@ -156,14 +156,14 @@ module _ (at : Site) (c : Call) (block len n : ℕ) (k : Commanded at c 1 n) whe
   too-much lt false e = rw e
 
   prog-data : Named c block len → 8 + len < n → Moves stepOf at c 3 [] 10 0x08
-  unfolding byNumber settled carriedOut faultOf
+  unfolding byNumber settled jobDone faultOf
   prog-data range lt =
       so-moves at c Answer.Faulted [] 10 0x08
       (command-leaves at c 1 n k (omega arith) (omega arith) (omega arith) (inl refl)
       ∙ rw (range .block-is, range .len-is, too-much lt (inApplication (at .session .board) block len) refl))
 
   prog-unerased : 8 ≤ n → Named c block len → Legal at block len → n ≤ 8 + len → NotBlank at block len → Moves stepOf at c 3 [] 10 0x05
-  unfolding byNumber settled carriedOut progOf faultOf
+  unfolding byNumber settled jobDone progOf faultOf
   prog-unerased long range legal few some =
       so-moves at c Answer.Faulted [] 10 0x05
       (command-leaves at c 1 n k long (omega arith) (omega arith) (inl refl)

@@ -15,7 +15,7 @@ use Rattle.session.proofs.Laws.{inside-facts, facts-inside, fit-near}
 use Rattle.request.specs.declared.Request.{Request}
 use Rattle.answers.specs.Answers.{leaves}
 use Rattle.answers.specs.Moves.{faultOf}
-use Rattle.jobs.specs.Job.{carriedOut}
+use Rattle.jobs.specs.Job.{jobDone}
 use Rattle.command.specs.Download.{wellFormed, byNumber, commandOf, pieceOf, dnloadOf}
 use Rattle.loader.specs.Step.{served, settled, stepOf}
 use Rattle.demands.specs.Calls.{Call, Site, called}
@@ -103,5 +103,5 @@ module _ (at : Site) (c : Call) (code n : ℕ) (k : Commanded at c code n) where
       (last-false (leb 8 n && leb 1 code && leb code 7))
 
   pub no-command-leaves : NoCommand code n → called stepOf at c ≡ leaves (faultOf (at .session) vendor) (at .flash) (c .reply)
-  unfolding commandOf settled carriedOut
+  unfolding commandOf settled jobDone
   no-command-leaves none = commanded ∙ rw (ill-formed none)

@@ -17,13 +17,13 @@ use Rattle.answers.specs.Answers.{leaves}
 use Rattle.answers.specs.Moves.{stallOf}
 use Rattle.request.specs.Request.{setupOf, hasForm, inForm, formOf, requestOf, wLength, allowedOf}
 use Rattle.request.specs.declared.Request.{Request}
-use Rattle.request.proofs.Laws.{form-right, form-facts, dnload-asked}
+use Rattle.request.proofs.Laws.{form-right, form-facts, dnload-data-asked}
 use Rattle.loader.specs.Step.{served, stepOf, settled}
 use Rattle.demands.specs.Calls.{Call, Site, called}
 use Rattle.demands.specs.Asked.{stateOf, Prepared, Says, Form, Allowed, Asks, NoRequest}
 use Rattle.demands.specs.Asked.Form.{dnload, upload, getstatus, clrstatus, getstate, abort, query}
 use Rattle.demands.specs.Does.Covered.{Covered}
-use Rattle.demands.proofs.Ground.Prepared.{setup-read, prepared-asked}
+use Rattle.demands.proofs.Ground.Prepared.{setup-read, prepared-data-asked}
 use Rattle.demands.proofs.Ground.Served.{sound-served, sound-stalled}
 
 module _ (setup : List ℕ) (eight : length setup ≡ 8) where
@@ -152,8 +152,8 @@ asks-stalled at c k none =
 -- a DNLOAD brings as many bytes as it says
 pub asks-brings : (at : Site) (c : Call) (n : ℕ) → Asks at c Request.Dnload n → length (c .bytes) ≡ n
 asks-brings at c n k =
-    prepared-asked at c (k .prepared)
-    ∙ dnload-asked (c .setup) (form-request (c .setup) (k .prepared .setup-bytes) Request.Dnload n (k .form))
+    prepared-data-asked at c (k .prepared)
+    ∙ dnload-data-asked (c .setup) (form-request (c .setup) (k .prepared .setup-bytes) Request.Dnload n (k .form))
     ∙ form-length (c .setup) (k .prepared .setup-bytes) Request.Dnload n (k .form)
 
 -- a prepared call that the table does not allow is no request

@@ -15,7 +15,7 @@ use Rattle.stream.proofs.Laws.{next-length}
 use Rattle.answers.specs.declared.Answer.{Answer}
 use Rattle.answers.specs.Answers.{Leaves, outcome, leaves}
 use Rattle.answers.specs.Moves.{faultOf, stallOf}
-use Rattle.jobs.specs.Job.{carriedOut}
+use Rattle.jobs.specs.Job.{jobDone}
 use Rattle.command.specs.Download.{pieceOf, closedOf}
 use Rattle.loader.specs.Reply.{answered, entered, polled, pollTime, getstatusOf, getstateOf, queryOf}
 use Rattle.loader.specs.Upload.{placeOf, answerOf, uploadEnds, uploadingAt, uploadedOf, uploadOf}
@@ -31,7 +31,7 @@ use Rattle.demands.proofs.Ground.Finished.{withFlash}
 -- DNLOAD of no bytes
 module _ (at : Site) (c : Call) (k : Asks at c Request.Dnload 0) (loading : stateOf at ≡ 5) where
   closes : called stepOf at c ≡ leaves (closedOf (at .session)) (at .flash) (c .reply)
-  unfolding pieceOf settled carriedOut
+  unfolding pieceOf settled jobDone
   closes = piece-leaves at c 0 k loading ∙ rw (asks-brings at c 0 k)
 
   close-done : at .session .down .left ≡ 0 → Moves stepOf at c 0 [] 6 0
@@ -59,7 +59,7 @@ module _ (at : Site) (c : Call) (n place : ℕ) (k : Asks at c Request.Upload n)
   uploads :
       StartsAt at place → called stepOf at c
       ≡ withFlash (answered (uploadedOf (at .session) n (length (nextBytes at place n))) (nextBytes at place n) (c .reply)) (at .flash)
-  unfolding served settled carriedOut uploadOf answerOf nextOf
+  unfolding served settled jobDone uploadOf answerOf nextOf
   uploads e =
       let s = at .session in
       asks-served at c Request.Upload n k (allowed e)
@@ -103,7 +103,7 @@ module _ (at : Site) (c : Call) (n place : ℕ) (k : Asks at c Request.Upload n)
 -- GETSTATUS
 module _ (at : Site) (c : Call) (k : Asks at c Request.GetStatus 6) where
   reports : (n : ℕ) → entered (at .session .phase) ≡ n → Reports stepOf at c n
-  unfolding served settled carriedOut getstatusOf answered polled pollTime
+  unfolding served settled jobDone getstatusOf answered polled pollTime
   reports n e =
       let s = at .session in
       let status = s .phase .status .0 in
@@ -141,19 +141,19 @@ module _ (at : Site) (c : Call) (k : Asks at c Request.GetStatus 6) where
 -- the short rows
 module _ (at : Site) (c : Call) where
   cleared : Asks at c Request.ClrStatus 0 → stateOf at ≡ 10 → Moves stepOf at c 0 [] 2 0
-  unfolding served settled carriedOut
+  unfolding served settled jobDone
   cleared k e = so-moves at c Answer.Taken [] 2 0 (asks-served at c Request.ClrStatus 0 k e)
 
   aborted : Asks at c Request.Abort 0 → (stateOf at ≡ 10 → ⊥) → Moves stepOf at c 0 [] 2 0
-  unfolding served settled carriedOut
+  unfolding served settled jobDone
   aborted k n = so-moves at c Answer.Taken [] 2 0 (asks-served at c Request.Abort 0 k n)
 
   told-state : Asks at c Request.GetState 1 → Unchanged stepOf at c 0 (stateOf at ∷ [])
-  unfolding served settled carriedOut getstateOf answered
+  unfolding served settled jobDone getstateOf answered
   told-state k = so-unchanged at c Answer.Taken (stateOf at ∷ []) (asks-served at c Request.GetState 1 k tt)
 
   queried : Asks at c Request.Query 4 → Unchanged stepOf at c 0 (0x4D ∷ 0x4C ∷ 0x01 ∷ 0x20 ∷ [])
-  unfolding served settled carriedOut queryOf answered
+  unfolding served settled jobDone queryOf answered
   queried k = so-unchanged at c Answer.Taken (0x4D ∷ 0x4C ∷ 0x01 ∷ 0x20 ∷ []) (asks-served at c Request.Query 4 k tt)
 
   stalls : Prepared at c → NoRequest at c → (stateOf at ≡ 10 → ⊥) → Moves stepOf at c 1 [] 10 0x0F

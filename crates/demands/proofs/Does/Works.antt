@@ -20,7 +20,7 @@ use Rattle.request.specs.declared.Request.{Request}
 use Rattle.answers.specs.declared.Answer.{Answer}
 use Rattle.answers.specs.Answers.{leaves}
 use Rattle.answers.specs.Moves.{movedTo, toSync, takenOf}
-use Rattle.jobs.specs.Job.{sumsAfter, carriedOut, wipeDone, sumsWiped}
+use Rattle.jobs.specs.Job.{sumsAfter, jobDone, wipeDone, sumsWiped}
 use Rattle.command.specs.Download.{progOf, eraseOf, byNumber, pieceOf}
 use Rattle.loader.specs.Step.{withReply, stepOf, settled}
 use Rattle.demands.specs.Calls.{Call, Site, called}
@@ -47,7 +47,7 @@ module _
   erase-leaves :
       called stepOf at c
       ≡ leaves (takenOf (toSync (withSums (at .session) erase-sums) idle noDownload)) (erased (at .flash) block count) (c .reply)
-  unfolding byNumber eraseOf erase-sums settled carriedOut wipeDone sumsWiped movedTo
+  unfolding byNumber eraseOf erase-sums settled jobDone wipeDone sumsWiped movedTo
   erase-leaves =
       command-leaves at c 4 8 k (omega arith) (omega arith) (omega arith) (inr refl)
       ∙ rw (range .block-is, range .count-is, legal-in at block (startOf count) (legal-near at c (k .asks .prepared)) legal)

@@ -18,27 +18,29 @@ use Rattle.request.specs.Request.{setupOf, formOf, requestOf, wLength, dataAske
 use Rattle.answers.specs.declared.Answer.{Answer}
 use Rattle.answers.specs.Answers.{Leaves, outcome, leaves}
 use Rattle.answers.specs.Moves.{movedTo, stallOf, faultOf}
-use Rattle.jobs.specs.Job.{sumsAfter, carriedOut, wipeDone, bytesDone, sumsWiped}
+use Rattle.jobs.specs.Job.{sumsAfter, jobDone, wipeDone, bytesDone, sumsWiped}
 use Rattle.command.specs.Download.{allErased, progOf, eraseOf, wellFormed, wroteOf}
 use Rattle.command.specs.Download.{byNumber, commandOf, closedOf, pieceOf, dnloadOf}
 use Rattle.loader.specs.Reply.{answered, entered, polled, pollTime, getstatusOf, getstateOf, queryOf}
 use Rattle.loader.specs.Step.{startable, freshStart, startOutcome, served, stepOf, settled}
-use Rattle.demands.specs.Calls.{heard, Call, Site, begun, called, next, after}
+use Rattle.demands.specs.Calls.{heard, Call, Site, begun, called, afterCall, afterCalls}
 use Rattle.demands.specs.Asked.{Prepared}
 use Rattle.demands.proofs.Ground.Prepared.{prepared-from}
 use Rattle.demands.specs.Exact.Desk.{Case, Meets, Expected, All, none, _and_, Desk, freshSite, getStatus}
 use Rattle.demands.specs.Exact.Desk.{eraseAll, wiped, marred, progOne, progZero, seven, close, case, deskCases}
 use Rattle.demands.proofs.Ground.Bytes.{erased-length, erased-part, not-erased, spliced-none, spliced-byte}
-use Rattle.demands.proofs.Ground.Served.{sound-served, sound-stalled, next-from}
+use Rattle.demands.proofs.Ground.Served.{sound-served, sound-stalled, after-call-from}
 
 -- no call, and one call more
-ended : (at : Site) → after stepOf at [] ≡ at
-unfolding after
+ended : (at : Site) → afterCalls stepOf at [] ≡ at
+unfolding afterCalls
 ended at = refl
 
-onward : (at on end : Site) (c : Call) (cs : List Call) → next stepOf at c ≡ on → after stepOf on cs ≡ end → after stepOf at (c ∷ cs) ≡ end
-unfolding after
-onward at on end c cs e h = ap (λ (x : Site). after stepOf x cs) e ∙ h
+onward :
+    (at on end : Site) (c : Call) (cs : List Call) → afterCall stepOf at c ≡ on → afterCalls stepOf on cs ≡ end
+    → afterCalls stepOf at (c ∷ cs) ≡ end
+unfolding afterCalls
+onward at on end c cs e h = ap (λ (x : Site). afterCalls stepOf x cs) e ∙ h
 
 module _ (p q : ℕ) (f buffer : List ℕ) (sized : length f ≡ startOf 64) (room : 1024 ≤ length buffer) where
   -- the session of the examples in a state, with a status, a state after sync, a download and its sums
@@ -93,65 +95,65 @@ module _ (p q : ℕ) (f buffer : List ℕ) (sized : length f ≡ startOf 64) (ro
 
   -- where the calls lead to
   module _ (sums : Sums) where
-    after-erase : next stepOf (site (held 2 0 2 0 0 sums) f) (eraseAll buffer) ≡ site (held 3 0 2 0 0 (refreshed sums w 16 64 16 64)) w
+    after-erase : afterCall stepOf (site (held 2 0 2 0 0 sums) f) (eraseAll buffer) ≡ site (held 3 0 2 0 0 (refreshed sums w 16 64 16 64)) w
     unfolding fitOf streamLength freshOf wholeUpload appEnd dataAsked setupOf formOf allowedOf served dnloadOf commandOf wellFormed
-        byNumber settled carriedOut eraseOf wipeDone sumsWiped movedTo
-    after-erase = next-from _ _ _ (serves (held 2 0 2 0 0 sums) f (eraseAll buffer) refl sized refl refl refl refl refl)
+        byNumber settled jobDone eraseOf wipeDone sumsWiped movedTo
+    after-erase = after-call-from _ _ _ (serves (held 2 0 2 0 0 sums) f (eraseAll buffer) refl sized refl refl refl refl refl)
 
-    after-seven : next stepOf (site (held 2 0 2 0 0 sums) f) (seven buffer) ≡ site (held 10 0x0B 2 0 0 sums) f
-    unfolding fitOf streamLength freshOf wholeUpload appEnd dataAsked setupOf formOf allowedOf served settled carriedOut dnloadOf
+    after-seven : afterCall stepOf (site (held 2 0 2 0 0 sums) f) (seven buffer) ≡ site (held 10 0x0B 2 0 0 sums) f
+    unfolding fitOf streamLength freshOf wholeUpload appEnd dataAsked setupOf formOf allowedOf served settled jobDone dnloadOf
         commandOf wellFormed faultOf movedTo
-    after-seven = next-from _ _ _ (serves (held 2 0 2 0 0 sums) f (seven buffer) refl sized refl refl refl refl refl)
+    after-seven = after-call-from _ _ _ (serves (held 2 0 2 0 0 sums) f (seven buffer) refl sized refl refl refl refl refl)
 
     after-poll :
-        (g : List ℕ) → length g ≡ startOf 64 → next stepOf (site (held 3 0 2 0 0 sums) g) (getStatus buffer)
+        (g : List ℕ) → length g ≡ startOf 64 → afterCall stepOf (site (held 3 0 2 0 0 sums) g) (getStatus buffer)
         ≡ site (held 2 0 2 0 0 sums) g
-    unfolding fitOf streamLength freshOf wholeUpload appEnd dataAsked setupOf formOf allowedOf served settled carriedOut getstatusOf
+    unfolding fitOf streamLength freshOf wholeUpload appEnd dataAsked setupOf formOf allowedOf served settled jobDone getstatusOf
         answered polled entered pollTime
-    after-poll g long = next-from _ _ _ (serves (held 3 0 2 0 0 sums) g (getStatus buffer) refl long refl refl refl refl refl)
+    after-poll g long = after-call-from _ _ _ (serves (held 3 0 2 0 0 sums) g (getStatus buffer) refl long refl refl refl refl refl)
 
     -- a PROG of one byte that brings none, and one that brings a zero
     one-sums : Sums
     one-sums = sumsAfter (boardOf 16 64 p q) sums w (startOf 16) 0
 
-    after-one : next stepOf (site (held 2 0 2 0 0 sums) w) (progOne buffer) ≡ site (held 3 0 5 16384 1 one-sums) w
+    after-one : afterCall stepOf (site (held 2 0 2 0 0 sums) w) (progOne buffer) ≡ site (held 3 0 5 16384 1 one-sums) w
     unfolding one-sums fitOf streamLength freshOf wholeUpload appEnd dataAsked setupOf formOf allowedOf served dnloadOf commandOf
-        wellFormed byNumber settled carriedOut progOf wroteOf bytesDone movedTo
+        wellFormed byNumber settled jobDone progOf wroteOf bytesDone movedTo
     after-one =
-        next-from _ _ (leaves (outcome Answer.Taken 0 (held 3 0 5 16384 1 one-sums)) w buffer)
+        after-call-from _ _ (leaves (outcome Answer.Taken 0 (held 3 0 5 16384 1 one-sums)) w buffer)
         (serves (held 2 0 2 0 0 sums) w (progOne buffer) refl w-long refl refl refl refl refl
         ∙ rw (w-erased 16 1 (omega arith) (omega arith), spliced-none w (startOf 16)))
 
     zero-sums : Sums
     zero-sums = sumsAfter (boardOf 16 64 p q) sums z (startOf 16) 1
 
-    after-zero : next stepOf (site (held 2 0 2 0 0 sums) w) (progZero buffer) ≡ site (held 3 0 5 16385 0 zero-sums) z
+    after-zero : afterCall stepOf (site (held 2 0 2 0 0 sums) w) (progZero buffer) ≡ site (held 3 0 5 16385 0 zero-sums) z
     unfolding zero-sums fitOf streamLength freshOf wholeUpload appEnd dataAsked setupOf formOf allowedOf served dnloadOf commandOf
-        wellFormed byNumber settled carriedOut progOf wroteOf bytesDone movedTo
+        wellFormed byNumber settled jobDone progOf wroteOf bytesDone movedTo
     after-zero =
-        next-from _ _ (leaves (outcome Answer.Taken 0 (held 3 0 5 16385 0 zero-sums)) z buffer)
+        after-call-from _ _ (leaves (outcome Answer.Taken 0 (held 3 0 5 16385 0 zero-sums)) z buffer)
         (serves (held 2 0 2 0 0 sums) w (progZero buffer) refl w-long refl refl refl refl refl
         ∙ rw (w-erased 16 1 (omega arith) (omega arith)))
 
-    one-polled : next stepOf (site (held 3 0 5 16384 1 sums) w) (getStatus buffer) ≡ site (held 5 0 2 16384 1 sums) w
-    unfolding fitOf streamLength freshOf wholeUpload appEnd dataAsked setupOf formOf allowedOf served settled carriedOut getstatusOf
+    one-polled : afterCall stepOf (site (held 3 0 5 16384 1 sums) w) (getStatus buffer) ≡ site (held 5 0 2 16384 1 sums) w
+    unfolding fitOf streamLength freshOf wholeUpload appEnd dataAsked setupOf formOf allowedOf served settled jobDone getstatusOf
         answered polled entered pollTime
-    one-polled = next-from _ _ _ (serves (held 3 0 5 16384 1 sums) w (getStatus buffer) refl w-long refl refl refl refl refl)
+    one-polled = after-call-from _ _ _ (serves (held 3 0 5 16384 1 sums) w (getStatus buffer) refl w-long refl refl refl refl refl)
 
-    zero-polled : next stepOf (site (held 3 0 5 16385 0 sums) z) (getStatus buffer) ≡ site (held 5 0 2 16385 0 sums) z
-    unfolding fitOf streamLength freshOf wholeUpload appEnd dataAsked setupOf formOf allowedOf served settled carriedOut getstatusOf
+    zero-polled : afterCall stepOf (site (held 3 0 5 16385 0 sums) z) (getStatus buffer) ≡ site (held 5 0 2 16385 0 sums) z
+    unfolding fitOf streamLength freshOf wholeUpload appEnd dataAsked setupOf formOf allowedOf served settled jobDone getstatusOf
         answered polled entered pollTime
-    zero-polled = next-from _ _ _ (serves (held 3 0 5 16385 0 sums) z (getStatus buffer) refl z-long refl refl refl refl refl)
+    zero-polled = after-call-from _ _ _ (serves (held 3 0 5 16385 0 sums) z (getStatus buffer) refl z-long refl refl refl refl refl)
 
-    zero-closed : next stepOf (site (held 5 0 2 16385 0 sums) z) (close buffer) ≡ site (held 6 0 2 0 0 sums) z
-    unfolding fitOf streamLength freshOf wholeUpload appEnd dataAsked setupOf formOf allowedOf served settled carriedOut dnloadOf
+    zero-closed : afterCall stepOf (site (held 5 0 2 16385 0 sums) z) (close buffer) ≡ site (held 6 0 2 0 0 sums) z
+    unfolding fitOf streamLength freshOf wholeUpload appEnd dataAsked setupOf formOf allowedOf served settled jobDone dnloadOf
         pieceOf closedOf movedTo
-    zero-closed = next-from _ _ _ (serves (held 5 0 2 16385 0 sums) z (close buffer) refl z-long refl refl refl refl refl)
+    zero-closed = after-call-from _ _ _ (serves (held 5 0 2 16385 0 sums) z (close buffer) refl z-long refl refl refl refl refl)
 
-    closed-polled : next stepOf (site (held 6 0 2 0 0 sums) z) (getStatus buffer) ≡ site (held 2 0 2 0 0 sums) z
-    unfolding fitOf streamLength freshOf wholeUpload appEnd dataAsked setupOf formOf allowedOf served settled carriedOut getstatusOf
+    closed-polled : afterCall stepOf (site (held 6 0 2 0 0 sums) z) (getStatus buffer) ≡ site (held 2 0 2 0 0 sums) z
+    unfolding fitOf streamLength freshOf wholeUpload appEnd dataAsked setupOf formOf allowedOf served settled jobDone getstatusOf
         answered polled entered pollTime
-    closed-polled = next-from _ _ _ (serves (held 6 0 2 0 0 sums) z (getStatus buffer) refl z-long refl refl refl refl refl)
+    closed-polled = after-call-from _ _ _ (serves (held 6 0 2 0 0 sums) z (getStatus buffer) refl z-long refl refl refl refl refl)
 
   -- where the examples stand: fresh, fresh with all erased, a download of one byte open, one closed, and in error
   sums0 : Sums
@@ -160,28 +162,28 @@ module _ (p q : ℕ) (f buffer : List ℕ) (sized : length f ≡ startOf 64) (ro
   sums1 : Sums
   sums1 = refreshed sums0 w 16 64 16 64
 
-  at-start : after stepOf (freshSite startOutcome p q f) [] ≡ site (held 2 0 2 0 0 sums0) f
-  unfolding after sums0
+  at-start : afterCalls stepOf (freshSite startOutcome p q f) [] ≡ site (held 2 0 2 0 0 sums0) f
+  unfolding afterCalls sums0
   at-start = begins
 
   through-erase :
-      (cs : List Call) (end : Site) → after stepOf (site (held 2 0 2 0 0 sums1) w) cs ≡ end
-      → after stepOf (freshSite startOutcome p q f) (eraseAll buffer ∷ getStatus buffer ∷ cs) ≡ end
+      (cs : List Call) (end : Site) → afterCalls stepOf (site (held 2 0 2 0 0 sums1) w) cs ≡ end
+      → afterCalls stepOf (freshSite startOutcome p q f) (eraseAll buffer ∷ getStatus buffer ∷ cs) ≡ end
   unfolding sums0 sums1
   through-erase cs end e =
-      onward _ _ _ _ _ (ap (λ (x : Site). next stepOf x (eraseAll buffer)) begins ∙ after-erase sums0)
+      onward _ _ _ _ _ (ap (λ (x : Site). afterCall stepOf x (eraseAll buffer)) begins ∙ after-erase sums0)
       (onward _ _ _ _ _ (after-poll sums1 w w-long) e)
 
-  at-erased : after stepOf (freshSite startOutcome p q f) (eraseAll buffer ∷ getStatus buffer ∷ []) ≡ site (held 2 0 2 0 0 sums1) w
+  at-erased : afterCalls stepOf (freshSite startOutcome p q f) (eraseAll buffer ∷ getStatus buffer ∷ []) ≡ site (held 2 0 2 0 0 sums1) w
   at-erased = through-erase [] _ (ended _)
 
   at-one :
-      after stepOf (freshSite startOutcome p q f) (eraseAll buffer ∷ getStatus buffer ∷ progOne buffer ∷ getStatus buffer ∷ [])
+      afterCalls stepOf (freshSite startOutcome p q f) (eraseAll buffer ∷ getStatus buffer ∷ progOne buffer ∷ getStatus buffer ∷ [])
       ≡ site (held 5 0 2 16384 1 (one-sums sums1)) w
   at-one = through-erase _ _ (onward _ _ _ _ _ (after-one sums1) (onward _ _ _ _ _ (one-polled (one-sums sums1)) (ended _)))
 
   at-zero :
-      after stepOf (freshSite startOutcome p q f)
+      afterCalls stepOf (freshSite startOutcome p q f)
       (eraseAll buffer ∷ getStatus buffer ∷ progZero buffer ∷ getStatus buffer ∷ close buffer ∷ getStatus buffer ∷ [])
       ≡ site (held 2 0 2 0 0 (zero-sums sums1)) z
   at-zero =
@@ -190,9 +192,9 @@ module _ (p q : ℕ) (f buffer : List ℕ) (sized : length f ≡ startOf 64) (ro
       (onward _ _ _ _ _ (after-zero sums1)
       (onward _ _ _ _ _ (zero-polled x) (onward _ _ _ _ _ (zero-closed x) (onward _ _ _ _ _ (closed-polled x) (ended _)))))
 
-  at-error : after stepOf (freshSite startOutcome p q f) (seven buffer ∷ []) ≡ site (held 10 0x0B 2 0 0 sums0) f
+  at-error : afterCalls stepOf (freshSite startOutcome p q f) (seven buffer ∷ []) ≡ site (held 10 0x0B 2 0 0 sums0) f
   unfolding sums0
-  at-error = onward _ _ _ _ _ (ap (λ (x : Site). next stepOf x (seven buffer)) begins ∙ after-seven sums0) (ended _)
+  at-error = onward _ _ _ _ _ (ap (λ (x : Site). afterCall stepOf x (seven buffer)) begins ∙ after-seven sums0) (ended _)
 
   -- the examples, by their places in the list
   abbrev nth : ℕ → Case
@@ -200,13 +202,13 @@ module _ (p q : ℕ) (f buffer : List ℕ) (sized : length f ≡ startOf 64) (ro
 
   -- what an example expects, one by one
   example :
-      (n : ℕ) (at : Site) (left : Leaves) → after stepOf (nth n .at) (nth n .before) ≡ at → called stepOf at (nth n .call) ≡ left
-      → heard left ≡ nth n .answer → left .count ≡ length (nth n .reply)
-      → left .session .phase .state .0 ≡ nth n .state → left .session .phase .status .0 ≡ nth n .status
-      → left .reply ≡ nth n .reply ++ drop (length (nth n .reply)) (nth n .call .reply) → left .flash ≡ nth n .flash
+      (n : ℕ) (at : Site) (l : Leaves) → afterCalls stepOf (nth n .at) (nth n .before) ≡ at → called stepOf at (nth n .call) ≡ l
+      → heard l ≡ nth n .answer → l .count ≡ length (nth n .reply)
+      → l .session .phase .state .0 ≡ nth n .state → l .session .phase .status .0 ≡ nth n .status
+      → l .reply ≡ nth n .reply ++ drop (length (nth n .reply)) (nth n .call .reply) → l .flash ≡ nth n .flash
       → Expected stepOf (nth n)
-  example n at left e h answer count state status reply flash =
-      subst (λ (l : Leaves). Meets l (nth n)) (sym (ap (λ (x : Site). called stepOf x (nth n .call)) e ∙ h))
+  example n at l e h answer count state status reply flash =
+      subst (λ (x : Leaves). Meets x (nth n)) (sym (ap (λ (x : Site). called stepOf x (nth n .call)) e ∙ h))
       (record { answer = answer; count = count; state = state; status = status; reply = reply; flash = flash })
 
   -- what a PROG of the last block leaves, and one over a zero byte
@@ -221,7 +223,7 @@ module _ (p q : ℕ) (f buffer : List ℕ) (sized : length f ≡ startOf 64) (ro
   -- all that each asks and expects is computed where it stands
   desk : All (Expected stepOf) (deskCases startOutcome p q f buffer)
   unfolding fitOf streamLength freshOf wholeUpload appEnd dataAsked setupOf formOf allowedOf served stallOf faultOf movedTo answered
-      getstateOf queryOf getstatusOf polled entered pollTime dnloadOf commandOf wellFormed byNumber settled carriedOut eraseOf wipeDone
+      getstateOf queryOf getstatusOf polled entered pollTime dnloadOf commandOf wellFormed byNumber settled jobDone eraseOf wipeDone
       sumsWiped progOf wroteOf bytesDone pieceOf closedOf
   desk =
       example 0 _ _ at-start (serves _ f _ refl sized refl refl refl refl refl) refl refl refl refl refl refl

@@ -10,13 +10,13 @@ use Rattle.sums.proofs.Laws.{right-unique}
 use Rattle.session.specs.Session.{boardOf, appEnd}
 use Rattle.session.specs.declared.Board.{Board}
 use Rattle.loader.specs.Step.{startOutcome, stepOf}
-use Rattle.demands.specs.Calls.{begun, Call, Site, called, next, after}
+use Rattle.demands.specs.Calls.{begun, Call, Site, called, afterCall, afterCalls}
 use Rattle.demands.specs.Asked.{Prepared}
 use Rattle.demands.specs.Safe.Refused.{Unfit}
 use Rattle.demands.specs.Safe.Fit.{AllowedStart, BadStart}
 use Rattle.demands.specs.Does.Starts.{Fresh}
 use Rattle.demands.specs.Kept.History.{Held}
-use Rattle.demands.specs.Exact.Determine.{SameStart, SameLeft, Determine}
+use Rattle.demands.specs.Exact.Determine.{SameStart, SameLeaves, Determine}
 use Rattle.demands.proofs.Demands.{meets-demands}
 use Rattle.demands.proofs.Exact.SameCall.{Loader, agree, Same, SameFlash, SameSums, same-unfit, same-call}
 
@@ -35,42 +35,43 @@ allowed-or-not f a b =
 
 module _ (x y : Loader) where
   -- the same is left of a call, and at the same site the next one begins
-  same-next :
-      (at : Site) (c : Call) → Same x y at c → next (x .step) at c ≡ next (y .step) at c
-  unfolding next
-  same-next at c same = λ i. record { session = same .session i; flash = same .flash i }
+  same-after-call :
+      (at : Site) (c : Call) → Same x y at c → afterCall (x .step) at c ≡ afterCall (y .step) at c
+  unfolding afterCall
+  same-after-call at c same = λ i. record { session = same .session i; flash = same .flash i }
 
   -- from one site on, as long as something holds there that says so of one call
   module _
       (Holds : Site → Type 0)
       (one : (at : Site) → Holds at → (c : Call) → Same x y at c)
-      (stays : (at : Site) → Holds at → (c : Call) → Holds (next (x .step) at c)) where
-    same-after :
+      (stays : (at : Site) → Holds at → (c : Call) → Holds (afterCall (x .step) at c)) where
+    same-after-calls :
         (at : Site) → Holds at → (calls : List Call) (c : Call)
-        → SameLeft (called (x .step) (after (x .step) at calls) c) (called (y .step) (after (y .step) at calls) c)
-    unfolding after
-    same-after at h [] c = one at h c
-    same-after at h (d ∷ ds) c =
+        → SameLeaves (called (x .step) (afterCalls (x .step) at calls) c) (called (y .step) (afterCalls (y .step) at calls) c)
+    unfolding afterCalls
+    same-after-calls at h [] c = one at h c
+    same-after-calls at h (d ∷ ds) c =
         subst
         (λ (s : Site).
-        SameLeft (called (x .step) (after (x .step) (next (x .step) at d) ds) c) (called (y .step) (after (y .step) s ds) c))
-        (same-next at d (one at h d)) (same-after (next (x .step) at d) (stays at h d) ds c)
+        SameLeaves (called (x .step) (afterCalls (x .step) (afterCall (x .step) at d) ds) c)
+        (called (y .step) (afterCalls (y .step) s ds) c))
+        (same-after-call at d (one at h d)) (same-after-calls (afterCall (x .step) at d) (stays at h d) ds c)
 
   -- a start that is taken: whatever calls come, both loaders keep what a history holds, so the flash pins the sums
   module _ (f : List ℕ) (board : Board) where
     Keeps : Loader → Site → Type 0
-    Keeps z at = (calls : List Call) → Held f board (after (z .step) at calls)
+    Keeps z at = (calls : List Call) → Held f board (afterCalls (z .step) at calls)
 
-    kept-next : (z : Loader) (at : Site) → Keeps z at → (c : Call) → Keeps z (next (z .step) at c)
-    unfolding Keeps after
-    kept-next z at h c = λ calls. h (c ∷ calls)
+    kept-after-call : (z : Loader) (at : Site) → Keeps z at → (c : Call) → Keeps z (afterCall (z .step) at c)
+    unfolding Keeps afterCalls
+    kept-after-call z at h c = λ calls. h (c ∷ calls)
 
     kept-sums : (at : Site) → Keeps x at → Keeps y at → (c : Call) → SameFlash x y at c → SameSums x y at c
-    unfolding Keeps after next
+    unfolding Keeps afterCalls afterCall
     kept-sums at h k c same =
-        right-unique (next (x .step) at c .session .sums) (next (y .step) at c .session .sums) (next (y .step) at c .flash)
+        right-unique (afterCall (x .step) at c .session .sums) (afterCall (y .step) at c .session .sums) (afterCall (y .step) at c .flash)
         (board .a .0) (appEnd board)
-        (subst (λ (g : List ℕ). Right (next (x .step) at c .session .sums) g (board .a .0) (appEnd board)) same
+        (subst (λ (g : List ℕ). Right (afterCall (x .step) at c .session .sums) g (board .a .0) (appEnd board)) same
         (h (c ∷ []) .sums-right))
         (k (c ∷ []) .sums-right)
 
@@ -80,18 +81,18 @@ module _ (x y : Loader) where
     same-kept : (at : Site) → BothKeep at → (c : Call) → Same x y at c
     same-kept at h c = same-call x y at c (kept-sums at (h .0) (h .1) c)
 
-    both-stay : (at : Site) → BothKeep at → (c : Call) → BothKeep (next (x .step) at c)
+    both-stay : (at : Site) → BothKeep at → (c : Call) → BothKeep (afterCall (x .step) at c)
     both-stay at h c = (
-      kept-next x at (h .0) c,
-      subst (Keeps y) (sym (same-next at c (same-kept at h c))) (kept-next y at (h .1) c),
+      kept-after-call x at (h .0) c,
+      subst (Keeps y) (sym (same-after-call at c (same-kept at h c))) (kept-after-call y at (h .1) c),
     )
 
   -- a start that is refused: no call is prepared, and none moves from the spot
   abbrev NonePrepared : Site → Type 0
   NonePrepared at = (c : Call) → Prepared at c → ⊥
 
-  none-stays : (at : Site) → NonePrepared at → (c : Call) → NonePrepared (next (x .step) at c)
-  unfolding next
+  none-stays : (at : Site) → NonePrepared at → (c : Call) → NonePrepared (afterCall (x .step) at c)
+  unfolding afterCall
   none-stays at none c =
       let left : Unfit at c (called (x .step) at c) =
       x .meets .refused at c .unfit (x .meets .unfit-exactly .unprepared at c (none c))
@@ -144,13 +145,13 @@ module _ (x y : Loader) where
     abbrev GoesOn : Site → Site → Type 0
     GoesOn at here =
         (calls : List Call) (c : Call)
-        → SameLeft (called (x .step) (after (x .step) at calls) c) (called (y .step) (after (y .step) here calls) c)
+        → SameLeaves (called (x .step) (afterCalls (x .step) at calls) c) (called (y .step) (afterCalls (y .step) here calls) c)
 
     taken-goes-on : AllowedStart f a b → GoesOn (beginning x) (beginning x)
     unfolding Keeps
     taken-goes-on h =
         let board = boardOf a b part0 part1 in
-        same-after (BothKeep f board) (same-kept f board) (both-stay f board) (beginning x) (
+        same-after-calls (BothKeep f board) (same-kept f board) (both-stay f board) (beginning x) (
           x .meets .history f a b part0 part1 h,
           subst (Keeps f board y) (sym begun-same) (y .meets .history f a b part0 part1 h),
         )
@@ -159,7 +160,7 @@ module _ (x y : Loader) where
     unfolding begun
     refused-goes-on none =
         let bad = x .meets .refused-start f a b part0 part1 none in
-        same-after NonePrepared (λ at n c. same-unfit x y at c (n c)) none-stays (beginning x)
+        same-after-calls NonePrepared (λ at n c. same-unfit x y at c (n c)) none-stays (beginning x)
         (λ c p. x .meets .unfit-exactly .prepared (beginning x) c p (bad .later-answer f c))
 
     goes-on-same : GoesOn (beginning x) (beginning y)

@@ -23,7 +23,7 @@ use Rattle.request.specs.Request.{setupOf, dataAsked}
 use Rattle.request.specs.declared.Request.{Request}
 use Rattle.answers.specs.Moves.{stallOf}
 use Rattle.loader.specs.Step.{startOutcome, stepOf}
-use Rattle.demands.specs.Calls.{Step, Call, Site, begun, called, next, after}
+use Rattle.demands.specs.Calls.{Step, Call, Site, begun, called, afterCall, afterCalls}
 use Rattle.demands.specs.Safe.Fit.{AllowedStart}
 use Rattle.demands.specs.Asked.{stateOf, Asks, Form}
 use Rattle.demands.specs.Asked.Form.{dnload, upload, getstate, query}
@@ -133,7 +133,7 @@ module _ (f : List ℕ) (sized : length f ≡ startOf 3) where
 here :
     (demand : Step → Site → Call → Type 0) (step : Step) → Led demand step → (f : List ℕ) → length f ≡ startOf 3 → (c : Call)
     → demand step (fresh-site f) c
-unfolding after
+unfolding afterCalls
 here demand step h f sized c = h f sized [] c
 
 -- GETSTATE is taken
@@ -234,7 +234,7 @@ module _
   ours = called stepOf erased-site prog-call .flash
 
   ours-long : length ours ≡ startOf 3
-  unfolding next begun
+  unfolding afterCall begun
   ours-long = outside-holds erased-site prog-call .as-long ∙ small-long
 
   stored : called (allAtFirst image) erased-site prog-call .flash ≡ spliced ours 1024 image
@@ -260,12 +260,12 @@ Uploading at place = (at .session .up ≡ upOf 0 1 1 2048 place) × StartsAt at 
 -- one that is wrong in the count alone stands where ours does
 module _ (invented : ℕ → ℕ) where
   abbrev site : List Call → Site
-  site calls = after (inventsCount invented) erased-site calls
+  site calls = afterCalls (inventsCount invented) erased-site calls
 
-  same-way : (at : Site) (calls : List Call) → after (inventsCount invented) at calls ≡ after stepOf at calls
-  unfolding after next called inventsCount
+  same-way : (at : Site) (calls : List Call) → afterCalls (inventsCount invented) at calls ≡ afterCalls stepOf at calls
+  unfolding afterCalls afterCall called inventsCount
   same-way at [] = refl
-  same-way at (c ∷ cs) = same-way (next stepOf at c) cs
+  same-way at (c ∷ cs) = same-way (afterCall stepOf at c) cs
 
   asks-there : (calls : List Call) → Asks (site calls) upload-call Request.Upload 1024
   asks-there calls =
@@ -285,8 +285,8 @@ module _ (invented : ℕ → ℕ) where
           rows .upload-count 1024 place (asks-there calls) (now .1)
           ∙ ap (λ (u : Upload). min 1024 (streamLength u - place)) (now .0)
 
-      further : Uploading (next (inventsCount invented) (site calls) upload-call) (place + min 1024 (2056 - place))
-      unfolding next streamLength
+      further : Uploading (afterCall (inventsCount invented) (site calls) upload-call) (place + min 1024 (2056 - place))
+      unfolding afterCall streamLength
       further =
           let done = rows .upload-goes-on 1024 place (asks-there calls) (now .1) (omega arith) in
           let up =
@@ -296,15 +296,15 @@ module _ (invented : ℕ → ℕ) where
           (up, inr (done .enters .state, sym (ap (λ (u : Upload). u .place) up)))
 
     at-first : Uploading (site []) 0
-    unfolding after begun appEnd
+    unfolding afterCalls begun appEnd
     at-first = (fresh smallFlash small-long .up, inl (idle smallFlash small-long, refl))
 
     at-second : Uploading (site (upload-call ∷ [])) 1024
-    unfolding after
+    unfolding afterCalls
     at-second = further [] 0 at-first
 
     at-third : Uploading (site (upload-call ∷ upload-call ∷ [])) 2048
-    unfolding after
+    unfolding afterCalls
     at-third = further (upload-call ∷ []) 1024 at-second
 
     invents-not : ⊥
@@ -350,7 +350,7 @@ constant-not sums each = last-tells front-sum (sym (each 0 ∙ last-sum 0) ∙ (
 
 -- not after a call that leaves the flash
 sums-not : (sums : Sums) → History startOutcome (constantSums sums) → ⊥
-unfolding after next called begun appEnd constantSums
+unfolding afterCalls afterCall called begun appEnd constantSums
 sums-not sums h =
     constant-not sums λ x.
     let f = last-flash x in
@@ -360,7 +360,7 @@ sums-not sums h =
 
 -- nor after none
 starts-not : (sums : Sums) → History (constantStart sums) stepOf → ⊥
-unfolding after begun appEnd constantStart
+unfolding afterCalls begun appEnd constantStart
 starts-not sums h = constant-not sums λ x. h (last-flash x) 1 3 0 0 (may (last-flash x) (last-long x)) [] .sums-right .whole
 
 pub Impostors-fail : Impostors

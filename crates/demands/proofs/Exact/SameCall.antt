@@ -22,7 +22,7 @@ use Rattle.demands.specs.Does.Rows.{StartsAt, handed, Answers, Enters, U
 use Rattle.demands.specs.Does.Commands.{Rewritten, EraseDone, BytesDone, Chooses}
 use Rattle.demands.specs.Does.Covered.{DnloadRow}
 use Rattle.demands.specs.Demands.{MeetsDemands}
-use Rattle.demands.specs.Exact.Determine.{SameLeft}
+use Rattle.demands.specs.Exact.Determine.{SameLeaves}
 use Rattle.demands.proofs.Ground.Prepared.{prepared-ready, ready-prepared}
 use Rattle.demands.proofs.Does.Forms.{Covered-holds}
 use Rattle.demands.proofs.Does.Covered.{DnloadRows-hold}
@@ -80,7 +80,7 @@ prepared-or-not at c =
 -- what two loaders leave of a call
 module _ (x y : Loader) (at : Site) (c : Call) where
   abbrev pub Same : Type 0
-  Same = SameLeft (called (x .step) at c) (called (y .step) at c)
+  Same = SameLeaves (called (x .step) at c) (called (y .step) at c)
 
   abbrev pub SameFlash : Type 0
   SameFlash = called (x .step) at c .flash ≡ called (y .step) at c .flash

@@ -33,18 +33,18 @@ module _ (setup : List ℕ) (eight : length setup ≡ 8) where
   unfolding setupOf
   setup-read = rw (eq-eqb _ _ eight)
 
-  asked : dataAsked setup ≡ cond (eqb (getD setup 0 0) 0x21 && eqb (getD setup 1 0) 1) (wordAt setup 6) 0
+  data-asked : dataAsked setup ≡ cond (eqb (getD setup 0 0) 0x21 && eqb (getD setup 1 0) 1) (wordAt setup 6) 0
   unfolding dataAsked
-  asked = ap (λ x. cond (eqb (x .kind) 0x21 && eqb (x .number) 1) (x .length) 0) setup-read
+  data-asked = ap (λ x. cond (eqb (x .kind) 0x21 && eqb (x .number) 1) (x .length) 0) setup-read
 
-  asked-dnload : SaysDnload setup → dataAsked setup ≡ wordAt setup 6
-  asked-dnload h = asked ∙ rw (h .0, h .1)
+  data-asked-dnload : SaysDnload setup → dataAsked setup ≡ wordAt setup 6
+  data-asked-dnload h = data-asked ∙ rw (h .0, h .1)
 
-  asked-other : (SaysDnload setup → ⊥) → dataAsked setup ≡ 0
-  asked-other n =
+  data-asked-other : (SaysDnload setup → ⊥) → dataAsked setup ≡ 0
+  data-asked-other n =
       let kind = eqb (getD setup 0 0) 0x21 in
       let number = eqb (getD setup 1 0) 1 in
-      asked
+      data-asked
       ∙ pick (λ (x : ℕ). x ≡ 0) (kind && number) _ _
       (λ e. absurd (n (eqb-true _ _ (left-of kind number e), eqb-true _ _ (right-of kind number e)))) (λ _. refl)
 
@@ -65,15 +65,15 @@ module _ (at : Site) (c : Call) where
         setup-bytes = eight;
         room = room;
         flash-length = sized;
-        dnload-data = λ h. brought ∙ asked-dnload (c .setup) eight h;
-        other-data = λ n. brought ∙ asked-other (c .setup) eight n;
+        dnload-data = λ h. brought ∙ data-asked-dnload (c .setup) eight h;
+        other-data = λ n. brought ∙ data-asked-other (c .setup) eight n;
         rules = fit-facts (at .session) fit;
       }
 
-  pub prepared-asked : Prepared at c → length (c .bytes) ≡ dataAsked (c .setup)
-  prepared-asked p =
-      ⊎-elim (λ h. p .dnload-data h ∙ sym (asked-dnload (c .setup) (p .setup-bytes) h))
-      (λ n. p .other-data n ∙ sym (asked-other (c .setup) (p .setup-bytes) n)) (says-or-not (c .setup))
+  pub prepared-data-asked : Prepared at c → length (c .bytes) ≡ dataAsked (c .setup)
+  prepared-data-asked p =
+      ⊎-elim (λ h. p .dnload-data h ∙ sym (data-asked-dnload (c .setup) (p .setup-bytes) h))
+      (λ n. p .other-data n ∙ sym (data-asked-other (c .setup) (p .setup-bytes) n)) (says-or-not (c .setup))
 
   -- the first test is what it says in words
   pub prepared-ready :
@@ -85,7 +85,7 @@ module _ (at : Site) (c : Call) where
         eq-eqb (length (c .setup)) 8 (p .setup-bytes),
         le-leb 1024 (length (c .reply)) (p .room),
         eq-eqb (length (at .flash)) (startOf (at .session .board .b .0)) (p .flash-length),
-        eq-eqb (length (c .bytes)) (dataAsked (c .setup)) (prepared-asked p),
+        eq-eqb (length (c .bytes)) (dataAsked (c .setup)) (prepared-data-asked p),
         facts-fit (at .session) (p .rules),
       )
 

@@ -4,9 +4,9 @@ use mathlib.Core.Path.{_≡_}
 use Rattle.answers.specs.Answers.{Leaves, leaves}
 use Rattle.answers.specs.Moves.{stallOf}
 use Rattle.request.specs.Request.{requestOf, wLength, allowedOf}
-use Rattle.jobs.specs.Job.{carriedOut}
+use Rattle.jobs.specs.Job.{jobDone}
 use Rattle.loader.specs.Step.{served, decidedOf, settled, stepOf}
-use Rattle.demands.specs.Calls.{Call, Site, called, next}
+use Rattle.demands.specs.Calls.{Call, Site, called, afterCall}
 use Rattle.demands.specs.Asked.{Prepared}
 use Rattle.demands.proofs.Ground.Prepared.{prepared-ready}
 
@@ -24,12 +24,12 @@ module _ (at : Site) (c : Call) (k : Prepared at c) where
   pub sound-stalled :
       allowedOf (requestOf (c .setup)) (wLength (c .setup)) (at .session .phase .state .0) ≡ false
       → called stepOf at c ≡ leaves (stallOf (at .session)) (at .flash) (c .reply)
-  unfolding called stepOf decidedOf settled carriedOut
+  unfolding called stepOf decidedOf settled jobDone
   sound-stalled e = rw (prepared-ready at c k, e)
 
 -- the site after a call, from what the call leaves
-pub next-from :
-    (at : Site) (c : Call) (left : Leaves) → called stepOf at c ≡ left → next stepOf at c
-    ≡ record { session = left .session; flash = left .flash }
-unfolding next
-next-from at c left e = rw e
+pub after-call-from :
+    (at : Site) (c : Call) (l : Leaves) → called stepOf at c ≡ l → afterCall stepOf at c
+    ≡ record { session = l .session; flash = l .flash }
+unfolding afterCall
+after-call-from at c l e = rw e

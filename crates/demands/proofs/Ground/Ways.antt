@@ -24,7 +24,7 @@ use Rattle.answers.specs.Answers.{Leaves, leaves}
 use Rattle.answers.specs.Moves.{movedTo, toIdle, toSync, takenOf, stallOf, unfitOf, faultOf, resetOf}
 use Rattle.jobs.specs.declared.Plan.{Plan}
 use Rattle.jobs.specs.declared.Job.{Job}
-use Rattle.jobs.specs.Job.{planOf, carriedOut}
+use Rattle.jobs.specs.Job.{planOf, jobDone}
 use Rattle.command.specs.Ready.{Ready}
 use Rattle.command.specs.Download.{allErased, progOf, readOf, checkOf, eraseOf, infoOf, binOf, wellFormed, byNumber, commandOf}
 use Rattle.command.specs.Download.{closedOf, pieceOf, dnloadOf}
@@ -39,7 +39,7 @@ use Rattle.demands.proofs.Ground.Finished.{finished, withFlash, storedO
 -- a DNLOAD that is served in a state
 pub record Loads (s : Session) (f setup : List ℕ) (state : ℕ) : Type 0 where
   pub fit : Ready s f
-  pub asked : requestOf setup ≡ Request.Dnload
+  pub is-dnload : requestOf setup ≡ Request.Dnload
   pub here : s .phase .state .0 ≡ state
 
 -- a well-formed command that is none of the six before it is RESET, of eight bytes
@@ -115,8 +115,8 @@ module _ (s : Session) (f setup d reply : List ℕ) (P : Leaves → Type 0) (w :
   Only o = P (leaves o f reply)
 
   faulty : Loads s f setup idle → (status : ℕ) → FaultStatus status → Finishes (planOf (faultOf s status) Job.Nothing)
-  unfolding Finishes settled carriedOut
-  faulty l = w .faults (l .fit) (l .asked)
+  unfolding Finishes settled jobDone
+  faulty l = w .faults (l .fit) (l .is-dnload)
 
   prog-ways :
       Loads s f setup idle → getD d 0 0 ≡ prog → Finishes (progOf s f (wordAt d 2) (longAt d 4) (length d - 8))
@@ -142,7 +142,7 @@ module _ (s : Session) (f setup d reply : List ℕ) (P : Leaves → Type 0) (w :
   unfolding readOf Only
   read-ways l =
       pick Only (inApplication (s .board) (wordAt d 2) (longAt d 4)) _ _ (λ i. w .reads l i)
-      (λ i. w .faults (l .fit) (l .asked) address (out-of-range refl))
+      (λ i. w .faults (l .fit) (l .is-dnload) address (out-of-range refl))
 
   check-ways : Loads s f setup idle → Only (checkOf s f (wordAt d 2) (longAt d 4))
   unfolding checkOf Only
@@ -150,8 +150,8 @@ module _ (s : Session) (f setup d reply : List ℕ) (P : Leaves → Type 0) (w :
       pick Only (inApplication (s .board) (wordAt d 2) (longAt d 4)) _ _
       (λ i.
       pick Only (allErased f (wordAt d 2) (longAt d 4)) _ _ (λ b. w .checks l)
-      (λ b. w .faults (l .fit) (l .asked) checkErased (not-erased refl)))
-      (λ i. w .faults (l .fit) (l .asked) address (out-of-range refl))
+      (λ b. w .faults (l .fit) (l .is-dnload) checkErased (not-erased refl)))
+      (λ i. w .faults (l .fit) (l .is-dnload) address (out-of-range refl))
 
   erase-ways : Loads s f setup idle → getD d 0 0 ≡ erase → Finishes (eraseOf s (wordAt d 2) (wordAt d 4))
   unfolding eraseOf Finishes
@@ -161,7 +161,7 @@ module _ (s : Session) (f setup d reply : List ℕ) (P : Leaves → Type 0) (w :
       (λ i. faulty l address (out-of-range refl))
 
   carried-ways : Loads s f setup idle → wellFormed d ≡ true → Finishes (byNumber (getD d 0 0) s f d)
-  unfolding Finishes Only byNumber settled carriedOut
+  unfolding Finishes Only byNumber settled jobDone
   carried-ways l g =
       pick Finishes (eqb (getD d 0 0) prog) _ _ (λ e. prog-ways l (eqb-true _ _ e))
       (λ n1.
@@ -187,10 +187,10 @@ module _ (s : Session) (f setup d reply : List ℕ) (P : Leaves → Type 0) (w :
   unfolding closedOf Only
   close-ways l =
       pick Only (eqb (s .down .left) 0) _ _ (λ _. w .closes l)
-      (λ _. w .faults (l .fit) (l .asked) notDone (bytes-missing refl))
+      (λ _. w .faults (l .fit) (l .is-dnload) notDone (bytes-missing refl))
 
   piece-ways : Loads s f setup downloadIdle → Finishes (pieceOf s (length d))
-  unfolding Finishes Only pieceOf settled carriedOut
+  unfolding Finishes Only pieceOf settled jobDone
   piece-ways l =
       pick Finishes (eqb (length d) 0) _ _ (λ _. close-ways l)
       (λ _.
@@ -198,7 +198,7 @@ module _ (s : Session) (f setup d reply : List ℕ) (P : Leaves → Type 0) (w :
       (λ n.
       subst⁻¹ P (bytes-finished s f d reply (s .down .place .0) 0 (length d) (s .down .left - length d) refl)
       (w .pieces l (leb-true _ _ n)))
-      (λ _. w .faults (l .fit) (l .asked) address (out-of-range refl)))
+      (λ _. w .faults (l .fit) (l .is-dnload) address (out-of-range refl)))
 
   dnload-ways :
       Ready s f → requestOf setup ≡ Request.Dnload
@@ -206,9 +206,9 @@ module _ (s : Session) (f setup d reply : List ℕ) (P : Leaves → Type 0) (w :
   unfolding dnloadOf
   dnload-ways r q a =
       pick Finishes (eqb (s .phase .state .0) idle) _ _
-      (λ e. command-ways (record { fit = r; asked = q; here = eqb-true _ _ e }))
+      (λ e. command-ways (record { fit = r; is-dnload = q; here = eqb-true _ _ e }))
       (λ n.
-      ⊎-elim (λ e. absurd (eqb-false _ _ n e)) (λ e. piece-ways (record { fit = r; asked = q; here = e }))
+      ⊎-elim (λ e. absurd (eqb-false _ _ n e)) (λ e. piece-ways (record { fit = r; is-dnload = q; here = e }))
       (allowed-loading s (wLength setup) a .in-two))
 
   Settles : Decided → Type 0
@@ -217,7 +217,7 @@ module _ (s : Session) (f setup d reply : List ℕ) (P : Leaves → Type 0) (w :
   served-ways :
       (q : Request) → requestOf setup ≡ q → Ready s f → allowedOf q (wLength setup) (s .phase .state .0) ≡ true
       → Settles (served q s f (wLength setup) d reply)
-  unfolding served Settles Finishes settled carriedOut allowedOf
+  unfolding served Settles Finishes settled jobDone allowedOf
   served-ways Request.Dnload e r a = dnload-ways r e a
   served-ways Request.Upload e r a = w .uploads r e
   served-ways Request.GetStatus e r a = w .polls r e
@@ -228,7 +228,7 @@ module _ (s : Session) (f setup d reply : List ℕ) (P : Leaves → Type 0) (w :
   served-ways Request.Nothing e r a = absurd (false≢true a)
 
   pub every-way : P (stepOf s f setup d reply)
-  unfolding stepOf Settles decidedOf settled carriedOut
+  unfolding stepOf Settles decidedOf settled jobDone
   every-way =
       pick Settles (ready s (length f) setup (length d) (length reply)) _ _
       (λ r.

@@ -29,7 +29,7 @@ use Rattle.command.proofs.Laws.{pick, ready-split, ready-within, ready-place, r
 use Rattle.loader.specs.Reply.{polled, getstatusOf, getstateOf, queryOf, answered}
 use Rattle.loader.specs.Upload.{uploadEnds, uploadingAt, uploadedOf, uploadOf}
 use Rattle.loader.specs.Step.{freshStart, startOutcome, stepOf}
-use Rattle.demands.specs.Calls.{begun, Call, Site, called, next, after}
+use Rattle.demands.specs.Calls.{begun, Call, Site, called, afterCall, afterCalls}
 use Rattle.demands.specs.Safe.Outside.{Untouched}
 use Rattle.demands.specs.Safe.Fit.{AllowedStart}
 use Rattle.demands.specs.Kept.History.{Held, History}
@@ -82,8 +82,8 @@ module _ (s : Session) (f : List ℕ) (r : Ready s f) (right : Summed s f) where
       (spliced-same f (startOf block) (blank (startOf count)) block (block + count) (omega arith) (omega arith) (omega arith))
 
 -- no call changes the board
-board-stays : (at : Site) (c : Call) → next stepOf at c .session .board ≡ at .session .board
-unfolding next called storedOf infoOf binOf movedTo stallOf unfitOf faultOf resetOf freshOf polled getstatusOf getstateOf queryOf
+board-stays : (at : Site) (c : Call) → afterCall stepOf at c .session .board ≡ at .session .board
+unfolding afterCall called storedOf infoOf binOf movedTo stallOf unfitOf faultOf resetOf freshOf polled getstatusOf getstateOf queryOf
     answered uploadOf uploadedOf uploadingAt
 board-stays at c =
     let s = at .session in
@@ -111,8 +111,8 @@ board-stays at c =
 -- a call keeps the sums right
 sums-stay :
     (at : Site) (c : Call) → Summed (at .session) (at .flash)
-    → Right (next stepOf at c .session .sums) (next stepOf at c .flash) (at .session .board .a .0) (appEnd (at .session .board))
-unfolding next called storedOf infoOf binOf movedTo stallOf unfitOf faultOf resetOf freshOf polled getstatusOf getstateOf queryOf
+    → Right (afterCall stepOf at c .session .sums) (afterCall stepOf at c .flash) (at .session .board .a .0) (appEnd (at .session .board))
+unfolding afterCall called storedOf infoOf binOf movedTo stallOf unfitOf faultOf resetOf freshOf polled getstatusOf getstateOf queryOf
     answered uploadOf uploadedOf uploadingAt
 sums-stay at c right =
     let s = at .session in
@@ -152,8 +152,8 @@ untouched-twice b f g h p q =
     }
 
 -- a call keeps all that a history holds
-held-next : (f : List ℕ) (b : Board) (at : Site) (c : Call) → Held f b at → Held f b (next stepOf at c)
-held-next f b at c h =
+held-after-call : (f : List ℕ) (b : Board) (at : Site) (c : Call) → Held f b at → Held f b (afterCall stepOf at c)
+held-after-call f b at c h =
     let own : Summed (at .session) (at .flash) =
     subst⁻¹ (λ (x : Board). Right (at .session .sums) (at .flash) (x .a .0) (appEnd x)) (h .board-kept) (h .sums-right)
     in
@@ -161,17 +161,18 @@ held-next f b at c h =
       board-kept = board-stays at c ∙ h .board-kept;
       fit = stays-fit-holds at c (h .fit);
       sums-right =
-          subst (λ (x : Board). Right (next stepOf at c .session .sums) (next stepOf at c .flash) (x .a .0) (appEnd x)) (h .board-kept)
+          subst (λ (x : Board). Right (afterCall stepOf at c .session .sums) (afterCall stepOf at c .flash) (x .a .0) (appEnd x))
+          (h .board-kept)
           (sums-stay at c own);
       outside-kept =
-          untouched-twice b f (at .flash) (next stepOf at c .flash) (h .outside-kept)
-          (subst (λ (x : Board). Untouched x (at .flash) (next stepOf at c .flash)) (h .board-kept) (outside-holds at c));
+          untouched-twice b f (at .flash) (afterCall stepOf at c .flash) (h .outside-kept)
+          (subst (λ (x : Board). Untouched x (at .flash) (afterCall stepOf at c .flash)) (h .board-kept) (outside-holds at c));
     }
 
-pub held-after : (f : List ℕ) (b : Board) (at : Site) (calls : List Call) → Held f b at → Held f b (after stepOf at calls)
-unfolding after
-held-after f b at [] h = h
-held-after f b at (c ∷ cs) h = held-after f b (next stepOf at c) cs (held-next f b at c h)
+pub held-after-calls : (f : List ℕ) (b : Board) (at : Site) (calls : List Call) → Held f b at → Held f b (afterCalls stepOf at calls)
+unfolding afterCalls
+held-after-calls f b at [] h = h
+held-after-calls f b at (c ∷ cs) h = held-after-calls f b (afterCall stepOf at c) cs (held-after-call f b at c h)
 
 pub held-begun :
     (f : List ℕ) (a b part0 part1 : ℕ) → AllowedStart f a b
@@ -190,4 +191,4 @@ held-begun f a b part0 part1 h =
 
 pub history-holds : History startOutcome stepOf
 history-holds f a b part0 part1 h calls =
-    held-after f (boardOf a b part0 part1) (begun startOutcome f a b part0 part1) calls (held-begun f a b part0 part1 h)
+    held-after-calls f (boardOf a b part0 part1) (begun startOutcome f a b part0 part1) calls (held-begun f a b part0 part1 h)

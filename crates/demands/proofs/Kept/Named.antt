@@ -29,7 +29,7 @@ use Rattle.command.proofs.Laws.{pick, ready-within, ready-range}
 use Rattle.loader.specs.Reply.{entered, polled, getstatusOf, getstateOf, queryOf, answered}
 use Rattle.loader.specs.Upload.{uploadEnds, uploadingAt, uploadedOf, uploadOf}
 use Rattle.loader.specs.Step.{freshStart, startOutcome, stepOf}
-use Rattle.demands.specs.Calls.{begun, heard, Call, Site, called, next, after}
+use Rattle.demands.specs.Calls.{begun, heard, Call, Site, called, afterCall, afterCalls}
 use Rattle.demands.specs.Safe.Fit.{AllowedStart}
 use Rattle.demands.specs.Kept.Named.{NamedRange, none, NotNamed, progNames, eraseNames, commandNames, isDnload, tookDnload}
 use Rattle.demands.specs.Kept.Named.{ChangesNamed, mayChange, noteOf, notedAfter, OnlyNamed}
@@ -96,7 +96,7 @@ pub record Covers (noted : NamedRange) (s : Session) : Type 0 where
 
 -- a call changes only what it may
 changes-named : (noted : NamedRange) (at : Site) (c : Call) → Covers noted (at .session) → ChangesNamed stepOf noted at c
-unfolding next called storedOf infoOf binOf stallOf unfitOf faultOf resetOf getstatusOf getstateOf queryOf answered uploadOf erased
+unfolding afterCall called storedOf infoOf binOf stallOf unfitOf faultOf resetOf getstatusOf getstateOf queryOf answered uploadOf erased
 changes-named noted at c covers k =
     let s = at .session in
     let f = at .flash in
@@ -110,7 +110,7 @@ changes-named noted at c covers k =
       programs = λ l p i n o.
           let w = ready-range s f (l .fit) (wordAt d 2) (longAt d 4) i in
           let out : NotNamed (progNames d) k =
-          subst (λ (r : NamedRange). NotNamed r k) (changes-prog noted s c _ refl (l .asked) (l .here) p) o
+          subst (λ (r : NamedRange). NotNamed r k) (changes-prog noted s c _ refl (l .is-dnload) (l .here) p) o
           in
           spliced-other f (startOf (wordAt d 2)) (drop 8 d) (omega arith) k
           (⊎-elim (λ lt. inl lt) (λ ge. inr (omega arith)) out);
@@ -120,7 +120,7 @@ changes-named noted at c covers k =
           let low = covers .low runs in
           let high = covers .high runs in
           let out : NotNamed noted k =
-          subst (λ (r : NamedRange). NotNamed r k) (changes-piece noted s c _ refl (l .asked) (l .here)) o
+          subst (λ (r : NamedRange). NotNamed r k) (changes-piece noted s c _ refl (l .is-dnload) (l .here)) o
           in
           spliced-other f (s .down .place .0) d (w .inside) k
           (⊎-elim (λ lt. inl (omega arith)) (λ ge. inr (omega arith)) out);
@@ -131,7 +131,7 @@ changes-named noted at c covers k =
           let w = ready-range s f (l .fit) (wordAt d 2) (startOf (wordAt d 4)) i in
           let long = length-blank (startOf (wordAt d 4)) in
           let out : NotNamed (eraseNames d) k =
-          subst (λ (r : NamedRange). NotNamed r k) (changes-erase noted s c _ refl (l .asked) (l .here) p) o
+          subst (λ (r : NamedRange). NotNamed r k) (changes-erase noted s c _ refl (l .is-dnload) (l .here) p) o
           in
           spliced-other f (startOf (wordAt d 2)) (blank (startOf (wordAt d 4))) (omega arith) k
           (⊎-elim (λ lt. inl lt) (λ ge. inr (omega arith)) out);
@@ -193,12 +193,12 @@ unfolding storedOf movedTo
 wrote-covers r s f at bytes left low high = record { low = λ _. omega arith; high = λ _. high }
 
 -- what is noted covers the download after a call
-covers-next :
+covers-after-call :
     (noted : NamedRange) (at : Site) (c : Call) → Covers noted (at .session)
-    → Covers (noteOf noted (at .session) c (called stepOf at c)) (next stepOf at c .session)
-unfolding next called storedOf infoOf binOf movedTo stallOf unfitOf faultOf resetOf freshOf polled getstatusOf getstateOf queryOf
+    → Covers (noteOf noted (at .session) c (called stepOf at c)) (afterCall stepOf at c .session)
+unfolding afterCall called storedOf infoOf binOf movedTo stallOf unfitOf faultOf resetOf freshOf polled getstatusOf getstateOf queryOf
     answered uploadOf
-covers-next noted at c covers =
+covers-after-call noted at c covers =
     let s = at .session in
     let f = at .flash in
     let d = c .bytes in
@@ -211,7 +211,7 @@ covers-next noted at c covers =
       stalls = λ _ _. stopped _ _ (stall-stops s);
       faults = λ _ _ _ _. stopped _ _ refl;
       programs = λ l p i n.
-          covers-as _ _ _ (notes-prog noted s c _ refl (l .asked) (l .here) p)
+          covers-as _ _ _ (notes-prog noted s c _ refl (l .is-dnload) (l .here) p)
           (wrote-covers (progNames d) s f (startOf (wordAt d 2)) (drop 8 d) (longAt d 4 - length (drop 8 d)) (omega arith)
           (omega arith));
       pieces = λ l n.
@@ -240,12 +240,12 @@ covers-next noted at c covers =
       idles = λ _. stopped _ _ refl;
     })
 
-covers-after :
+covers-after-calls :
     (noted : NamedRange) (at : Site) (calls : List Call) → Covers noted (at .session)
-    → Covers (notedAfter stepOf noted at calls) (after stepOf at calls .session)
-unfolding notedAfter after
-covers-after noted at [] h = h
-covers-after noted at (c ∷ cs) h = covers-after _ (next stepOf at c) cs (covers-next noted at c h)
+    → Covers (notedAfter stepOf noted at calls) (afterCalls stepOf at calls .session)
+unfolding notedAfter afterCalls
+covers-after-calls noted at [] h = h
+covers-after-calls noted at (c ∷ cs) h = covers-after-calls _ (afterCall stepOf at c) cs (covers-after-call noted at c h)
 
 -- a start runs no download
 start-stops :
@@ -256,5 +256,5 @@ start-stops f a b part0 part1 h = ap (λ (o : Told). running (o .session .phase)
 pub only-named-holds : OnlyNamed startOutcome stepOf
 only-named-holds f a b part0 part1 h calls c =
     let at = begun startOutcome f a b part0 part1 in
-    changes-named (notedAfter stepOf none at calls) (after stepOf at calls) c
-    (covers-after none at calls (stopped none (at .session) (start-stops f a b part0 part1 h)))
+    changes-named (notedAfter stepOf none at calls) (afterCalls stepOf at calls) c
+    (covers-after-calls none at calls (stopped none (at .session) (start-stops f a b part0 part1 h)))

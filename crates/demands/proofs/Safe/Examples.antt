@@ -15,10 +15,10 @@ use Rattle.numbers.specs.Numbers.{wordAt}
 use Rattle.request.specs.Request.{allowedOf, formOf, setupOf}
 use Rattle.request.specs.declared.Request.{Request}
 use Rattle.answers.specs.Moves.{stallOf, faultOf, resetOf}
-use Rattle.jobs.specs.Job.{carriedOut}
+use Rattle.jobs.specs.Job.{jobDone}
 use Rattle.command.specs.Download.{wellFormed, byNumber, commandOf, dnloadOf}
 use Rattle.loader.specs.Step.{served, stepOf, settled}
-use Rattle.demands.specs.Calls.{heard, Call, Site, called, next}
+use Rattle.demands.specs.Calls.{heard, Call, Site, called, afterCall}
 use Rattle.demands.specs.Asked.{SaysDnload, Prepared, Form, Allowed, NoRequest}
 use Rattle.demands.specs.Asked.Form.{dnload}
 use Rattle.demands.specs.Safe.Outside.{OutsideApp}
@@ -118,29 +118,29 @@ allowed-call-met = (dnload (record { typed = refl; numbered = refl; no-index = r
 
 -- each row's answer
 pub stalled-met : heard (called stepOf small clrstatus) ≡ 1
-unfolding small freshOf formOf setupOf allowedOf stallOf settled carriedOut
+unfolding small freshOf formOf setupOf allowedOf stallOf settled jobDone
 stalled-met = ap heard (goes-on small clrstatus prepared-met)
 
 pub unfit-met : heard (called stepOf small noSetup) ≡ 2
 unfit-met = unfit-exactly-holds .unprepared small noSetup not-prepared-met
 
 pub faulted-met : heard (called stepOf small oneByte) ≡ 3
-unfolding small freshOf formOf setupOf allowedOf served dnloadOf commandOf wellFormed faultOf settled carriedOut
+unfolding small freshOf formOf setupOf allowedOf served dnloadOf commandOf wellFormed faultOf settled jobDone
 faulted-met = ap heard (goes-on small oneByte one-byte-prepared)
 
 pub reset-asked-met : heard (called stepOf small resetCommand) ≡ 4
-unfolding small freshOf formOf setupOf allowedOf served dnloadOf commandOf wellFormed byNumber settled carriedOut resetOf
+unfolding small freshOf formOf setupOf allowedOf served dnloadOf commandOf wellFormed byNumber settled jobDone resetOf
 reset-asked-met = ap heard (goes-on small resetCommand reset-prepared)
 
 -- a stall in state 10: the call after the stall above, ABORT
 abbrev pub abort : Call
 abort = lent (0x21 ∷ 6 ∷ 0 ∷ 0 ∷ 0 ∷ 0 ∷ 0 ∷ 0 ∷ []) []
 
-stalled-once : InError (small .session) (next stepOf small clrstatus .session) 0x0F
-unfolding next small freshOf
+stalled-once : InError (small .session) (afterCall stepOf small clrstatus .session) 0x0F
+unfolding afterCall small freshOf
 stalled-once = refused-holds small clrstatus .stalled stalled-met .elsewhere (λ e. omega (arith, e))
 
-abort-prepared : Prepared (next stepOf small clrstatus) abort
+abort-prepared : Prepared (afterCall stepOf small clrstatus) abort
 abort-prepared =
     record {
       setup-bytes = refl;
@@ -155,8 +155,8 @@ abort-prepared =
     }
 
 pub in-ten-met :
-    (next stepOf small clrstatus .session .phase .state .0 ≡ 10) × (heard (called stepOf (next stepOf small clrstatus) abort) ≡ 1)
-unfolding formOf setupOf allowedOf stallOf settled carriedOut
+    (afterCall stepOf small clrstatus .session .phase .state .0 ≡ 10) × (heard (called stepOf (afterCall stepOf small clrstatus) abort) ≡ 1)
+unfolding formOf setupOf allowedOf stallOf settled jobDone
 in-ten-met =
     let e = stalled-once .in-state in
-    (e, ap heard (goes-on (next stepOf small clrstatus) abort abort-prepared) ∙ rw e)
+    (e, ap heard (goes-on (afterCall stepOf small clrstatus) abort abort-prepared) ∙ rw e)

@@ -40,7 +40,7 @@ use Rattle.loader.specs.Reply.{entered, polled, getstatusOf, getstateOf, queryO
 use Rattle.loader.specs.Upload.{placeOf, answerOf, uploadEnds, uploadingAt, uploadedOf, uploadOf}
 use Rattle.loader.specs.Step.{startable, freshStart, startOutcome, stepOf}
 use Rattle.loader.proofs.Laws.{place-in-stream, start-split, start-sized}
-use Rattle.demands.specs.Calls.{heard, Call, Site, called, next}
+use Rattle.demands.specs.Calls.{heard, Call, Site, called, afterCall}
 use Rattle.demands.specs.Safe.Fit.{StaysFit, AllowedStart, StartsFit, RefusedStart}
 use Rattle.demands.specs.Safe.Refused.{FaultStatus}
 use Rattle.demands.specs.Safe.Refused.{not-erased, out-of-range, bytes-missing, bad-command}
@@ -274,8 +274,8 @@ module _ (s : Session) (e : fitOf s ≡ true) where
       ]
 
 -- the rules as the code tests them stay kept
-tests-stay : (at : Site) (c : Call) → fitOf (at .session) ≡ true → fitOf (next stepOf at c .session) ≡ true
-unfolding next called getstatusOf getstateOf queryOf answered unfitOf faultOf resetOf
+tests-stay : (at : Site) (c : Call) → fitOf (at .session) ≡ true → fitOf (afterCall stepOf at c .session) ≡ true
+unfolding afterCall called getstatusOf getstateOf queryOf answered unfitOf faultOf resetOf
 tests-stay at c e =
     let s = at .session in
     let f = at .flash in
@@ -308,7 +308,7 @@ tests-stay at c e =
     })
 
 pub stays-fit-holds : StaysFit stepOf
-stays-fit-holds at c fit = fit-facts (next stepOf at c .session) (tests-stay at c (facts-fit (at .session) fit))
+stays-fit-holds at c fit = fit-facts (afterCall stepOf at c .session) (tests-stay at c (facts-fit (at .session) fit))
 
 -- what a start finds
 allowed-startable : (f : List ℕ) (a b : ℕ) → AllowedStart f a b → startable (length f) a b ≡ true

@@ -23,7 +23,7 @@ use Rattle.answers.specs.Moves.{stallOf, unfitOf, faultOf, resetOf}
 use Rattle.loader.specs.Reply.{getstatusOf, getstateOf, queryOf, answered}
 use Rattle.loader.specs.Upload.{uploadOf}
 use Rattle.loader.specs.Step.{stepOf}
-use Rattle.demands.specs.Calls.{called, next}
+use Rattle.demands.specs.Calls.{called, afterCall}
 use Rattle.demands.specs.Safe.Outside.{Untouched, Outside}
 use Rattle.demands.proofs.Ground.Ways.{Loads, every-way}
 use Rattle.demands.proofs.Ground.Finished.{storedOf}
@@ -53,7 +53,7 @@ piece-place s f setup n l h =
     record { low = low; high = omega arith }
 
 pub outside-holds : Outside stepOf
-unfolding next called storedOf infoOf binOf stallOf unfitOf faultOf resetOf getstatusOf getstateOf queryOf answered uploadOf erased
+unfolding afterCall called storedOf infoOf binOf stallOf unfitOf faultOf resetOf getstatusOf getstateOf queryOf answered uploadOf erased
 outside-holds at c =
     let s = at .session in
     let f = at .flash in

@@ -16,7 +16,7 @@ use Rattle.request.specs.Request.{wLength, requestOf, allowedOf}
 use Rattle.request.specs.declared.Request.{Request}
 use Rattle.answers.specs.Answers.{Leaves, leaves}
 use Rattle.answers.specs.Moves.{movedTo, toError, stallOf, unfitOf, faultOf, resetOf}
-use Rattle.jobs.specs.Job.{carriedOut}
+use Rattle.jobs.specs.Job.{jobDone}
 use Rattle.command.specs.Download.{infoOf, binOf}
 use Rattle.command.proofs.Laws.{pick}
 use Rattle.loader.specs.Reply.{getstatusOf, getstateOf, queryOf, answered}
@@ -141,7 +141,7 @@ prepared-rows at c p =
             faulted = λ h. absurd (omega arith);
             reset-asked = λ _.
                 record {
-                  when = record { asked = in-form at c p (l .asked); in-two = l .here; eight = n; number = k };
+                  when = record { in-form = in-form at c p (l .is-dnload); in-two = l .here; eight = n; number = k };
                   quiet = record { count = refl; flash = refl; reply = refl };
                   as-fresh = freshened s;
                 };
@@ -167,7 +167,7 @@ unfit-rows at c =
 unready :
     (at : Site) (c : Call) → ready (at .session) (length (at .flash)) (c .setup) (length (c .bytes)) (length (c .reply)) ≡ false
     → called stepOf at c ≡ leaves (unfitOf (at .session)) (at .flash) (c .reply)
-unfolding called stepOf decidedOf settled carriedOut
+unfolding called stepOf decidedOf settled jobDone
 unready at c e = rw e
 
 pub refused-holds : Refused stepOf
@@ -181,7 +181,7 @@ refused-holds at c = go (ready (at .session) (length (at .flash)) (c .setup) (le
 
 module _ (at : Site) (c : Call) where
   unprepared-unfit : (Prepared at c → ⊥) → heard (called stepOf at c) ≡ 2
-  unfolding called stepOf decidedOf settled carriedOut unfitOf
+  unfolding called stepOf decidedOf settled jobDone unfitOf
   unprepared-unfit n =
       pick (λ (x : Decided). heard (settled x (at .flash) (c .bytes)) ≡ 2)
       (ready (at .session) (length (at .flash)) (c .setup) (length (c .bytes)) (length (c .reply))) _ _

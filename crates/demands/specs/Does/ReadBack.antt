@@ -12,7 +12,7 @@ use Rattle.session.specs.Fit.{Fit}
 use Rattle.numbers.specs.Numbers.{bytes2, bytes4}
 use Rattle.request.specs.Commands.{prog, read, erase}
 use Rattle.answers.specs.Answers.{Leaves}
-use Rattle.demands.specs.Calls.{Step, heard, Call, Site, called, next}
+use Rattle.demands.specs.Calls.{Step, heard, Call, Site, called, afterCall}
 use Rattle.demands.specs.Does.Commands.{Legal}
 
 -- A host ends with something, or makes a call and goes on by the reply bytes that it hears. It is handed no session and no flash, so
@@ -43,7 +43,7 @@ ranAfter first r = record { site = r .site; got = r .got; taken = first && r .ta
 unfoldable pub run : {A : Type 0} → Step → Site → Host A → Ran A
 run step at (ends a) = record { site = at; got = a; taken = true }
 run step at (asks c go) =
-    ranAfter (wasTaken (called step at c)) (run step (next step at c) (go (replied (called step at c))))
+    ranAfter (wasTaken (called step at c)) (run step (afterCall step at c) (go (replied (called step at c))))
 
 -- setup bytes: type, number, wValue 0, wIndex 0, wLength
 unfoldable pub setupFor : ℕ → ℕ → ℕ → List ℕ

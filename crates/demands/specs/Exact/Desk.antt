@@ -5,7 +5,7 @@ use mathlib.Core.Path.{_≡_}
 use lib.ListN.{length, drop}
 use Rattle.flash.specs.Flash.{startOf, spliced, erased}
 use Rattle.answers.specs.Answers.{Leaves}
-use Rattle.demands.specs.Calls.{Start, Step, heard, Call, Site, begun, called, after}
+use Rattle.demands.specs.Calls.{Start, Step, heard, Call, Site, begun, called, afterCalls}
 
 -- one example: where it starts, the calls that lead up to it, the call, and what is expected of it: the answer's number, the state
 -- and the status of the session handed back, the bytes of the reply, and the flash
@@ -20,16 +20,16 @@ pub record Case : Type 0 where
   pub flash : List ℕ
 
 -- what a call leaves is what an example expects: the count is that of the reply's bytes, and the rest of the reply is untouched
-pub record Meets (left : Leaves) (c : Case) : Type 0 where
-  pub answer : heard left ≡ c .answer
-  pub count : left .count ≡ length (c .reply)
-  pub state : left .session .phase .state .0 ≡ c .state
-  pub status : left .session .phase .status .0 ≡ c .status
-  pub reply : left .reply ≡ c .reply ++ drop (length (c .reply)) (c .call .reply)
-  pub flash : left .flash ≡ c .flash
+pub record Meets (l : Leaves) (c : Case) : Type 0 where
+  pub answer : heard l ≡ c .answer
+  pub count : l .count ≡ length (c .reply)
+  pub state : l .session .phase .state .0 ≡ c .state
+  pub status : l .session .phase .status .0 ≡ c .status
+  pub reply : l .reply ≡ c .reply ++ drop (length (c .reply)) (c .call .reply)
+  pub flash : l .flash ≡ c .flash
 
 abbrev pub Expected : Step → Case → Type 0
-Expected step c = Meets (called step (after step (c .at) (c .before)) (c .call)) c
+Expected step c = Meets (called step (afterCalls step (c .at) (c .before)) (c .call)) c
 
 -- something holds of all of a list
 pub data All (P : Case → Type 0) : List Case → Type 0 where

@@ -4,7 +4,7 @@ use mathlib.Core.List.{List}
 use mathlib.Core.Path.{_≡_}
 use Rattle.answers.specs.Answers.{Leaves, Told}
 use Rattle.loader.specs.Step.{startOutcome, stepOf}
-use Rattle.demands.specs.Calls.{Start, Step, heard, Call, begun, called, after}
+use Rattle.demands.specs.Calls.{Start, Step, heard, Call, begun, called, afterCalls}
 use Rattle.demands.specs.Demands.{MeetsDemands}
 
 -- two starts leave the same, field by field
@@ -14,7 +14,7 @@ pub record SameStart (o p : Told) : Type 0 where
   pub session : o .session ≡ p .session
 
 -- so do two calls
-pub record SameLeft (l m : Leaves) : Type 0 where
+pub record SameLeaves (l m : Leaves) : Type 0 where
   pub answer : heard l ≡ heard m
   pub count : l .count ≡ m .count
   pub session : l .session ≡ m .session
@@ -26,8 +26,8 @@ pub record SameAsOurs (start : Start) (step : Step) (f : List ℕ) (a b part0 pa
   pub begins : SameStart (start f a b part0 part1) (startOutcome f a b part0 part1)
   pub goes-on :
       (calls : List Call) (c : Call)
-      → SameLeft (called step (after step (begun start f a b part0 part1) calls) c)
-      (called stepOf (after stepOf (begun startOutcome f a b part0 part1) calls) c)
+      → SameLeaves (called step (afterCalls step (begun start f a b part0 part1) calls) c)
+      (called stepOf (afterCalls stepOf (begun startOutcome f a b part0 part1) calls) c)
 
 -- Determine: so does every loader that meets the demands, on any flash and numbers, those that a start refuses too
 abbrev pub Determine : Type 0

@@ -13,7 +13,7 @@ use Rattle.numbers.specs.Numbers.{wordAt}
 use Rattle.answers.specs.Answers.{Leaves, leaves}
 use Rattle.answers.specs.Moves.{takenOf, stallOf}
 use Rattle.loader.specs.Step.{startOutcome, stepOf}
-use Rattle.demands.specs.Calls.{Start, Step, Call, Site, begun, after}
+use Rattle.demands.specs.Calls.{Start, Step, Call, Site, begun, afterCalls}
 use Rattle.demands.specs.Does.Rows.{RowsAt}
 use Rattle.demands.specs.Does.Commands.{EraseAt, ProgramAt}
 use Rattle.demands.specs.Kept.History.{History}
@@ -90,7 +90,7 @@ constantStart sums flash a b part0 part1 =
 abbrev pub Led : (Step → Site → Call → Type 0) → Step → Type 0
 Led demand step =
     (f : List ℕ) → length f ≡ startOf 3 → (calls : List Call) (c : Call)
-    → demand step (after step (begun startOutcome f 1 3 0 0) calls) c
+    → demand step (afterCalls step (begun startOutcome f 1 3 0 0) calls) c
 
 -- each of them fails a demand, and at a site that a start and calls lead to
 pub record Impostors : Type 0 where

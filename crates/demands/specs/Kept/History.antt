@@ -6,7 +6,7 @@ use Rattle.sums.specs.Sum.{Right}
 use Rattle.session.specs.Session.{boardOf, appEnd}
 use Rattle.session.specs.Fit.{Fit}
 use Rattle.session.specs.declared.Board.{Board}
-use Rattle.demands.specs.Calls.{Start, Step, Call, Site, begun, after}
+use Rattle.demands.specs.Calls.{Start, Step, Call, Site, begun, afterCalls}
 use Rattle.demands.specs.Safe.Outside.{Untouched}
 use Rattle.demands.specs.Safe.Fit.{AllowedStart}
 
@@ -23,4 +23,4 @@ pub record Held (f : List ℕ) (board : Board) (at : Site) : Type 0 where
 abbrev pub History : Start → Step → Type 0
 History start step =
     (f : List ℕ) (a b part0 part1 : ℕ) → AllowedStart f a b → (calls : List Call)
-    → Held f (boardOf a b part0 part1) (after step (begun start f a b part0 part1) calls)
+    → Held f (boardOf a b part0 part1) (afterCalls step (begun start f a b part0 part1) calls)

@@ -12,7 +12,7 @@ use Rattle.numbers.specs.Numbers.{wordAt, longAt}
 use Rattle.request.specs.Request.{requestOf}
 use Rattle.request.specs.declared.Request.{Request}
 use Rattle.answers.specs.Answers.{Leaves}
-use Rattle.demands.specs.Calls.{Start, Step, heard, Call, Site, begun, called, next, after}
+use Rattle.demands.specs.Calls.{Start, Step, heard, Call, Site, begun, called, afterCall, afterCalls}
 use Rattle.demands.specs.Safe.Fit.{AllowedStart}
 
 -- some bytes of flash that were named: where they begin, and how many they are
@@ -69,13 +69,13 @@ noteOf noted s c l = cond (tookDnload 2 s c l && eqb (getD (c .bytes) 0 0) 1) (p
 unfoldable pub notedAfter : Step → NamedRange → Site → List Call → NamedRange
 notedAfter step noted at [] = noted
 notedAfter step noted at (c ∷ cs) =
-    notedAfter step (noteOf noted (at .session) c (called step at c)) (next step at c) cs
+    notedAfter step (noteOf noted (at .session) c (called step at c)) (afterCall step at c) cs
 
 -- a call changes no other bytes than it may
 abbrev pub ChangesNamed : Step → NamedRange → Site → Call → Type 0
 ChangesNamed step noted at c =
     (k : ℕ) → NotNamed (mayChange noted (at .session) c (called step at c)) k
-    → getD (next step at c .flash) k 0 ≡ getD (at .flash) k 0
+    → getD (afterCall step at c .flash) k 0 ≡ getD (at .flash) k 0
 
 -- OnlyNamed: after a start and any calls, each call changes no byte but those named by the ERASE or PROG that it carries out, or by
 -- the PROG that it continues
@@ -83,4 +83,4 @@ abbrev pub OnlyNamed : Start → Step → Type 0
 OnlyNamed start step =
     (f : List ℕ) (a b part0 part1 : ℕ) → AllowedStart f a b → (calls : List Call) (c : Call)
     → ChangesNamed step (notedAfter step none (begun start f a b part0 part1) calls)
-    (after step (begun start f a b part0 part1) calls) c
+    (afterCalls step (begun start f a b part0 part1) calls) c

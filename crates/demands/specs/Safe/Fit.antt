@@ -8,12 +8,12 @@ use Rattle.sums.specs.Sum.{mostBlocks}
 use Rattle.session.specs.Session.{zerosOf}
 use Rattle.session.specs.Fit.{Fit}
 use Rattle.answers.specs.Answers.{Told}
-use Rattle.demands.specs.Calls.{Start, Step, heard, Call, Site, called, next}
+use Rattle.demands.specs.Calls.{Start, Step, heard, Call, Site, called, afterCall}
 use Rattle.demands.specs.Safe.Refused.{Unfit}
 
 -- StaysFit: a fit session is handed back fit, whatever the call
 abbrev pub StaysFit : Step → Type 0
-StaysFit step = (at : Site) (c : Call) → Fit (at .session) → Fit (next step at c .session)
+StaysFit step = (at : Site) (c : Call) → Fit (at .session) → Fit (afterCall step at c .session)
 
 -- sizes that a start allows: 1 ≤ A < B, B at most the most blocks, and a flash of B × 1,024 bytes
 pub record AllowedStart (f : List ℕ) (a b : ℕ) : Type 0 where

@@ -7,7 +7,7 @@ use lib.ListN.{length, getD}
 use Rattle.flash.specs.Flash.{startOf}
 use Rattle.session.specs.Session.{appEnd}
 use Rattle.session.specs.declared.Board.{Board}
-use Rattle.demands.specs.Calls.{Step, Call, Site, next}
+use Rattle.demands.specs.Calls.{Step, Call, Site, afterCall}
 
 -- an address in no application block: below block A's first byte, or from the application's end on
 abbrev pub OutsideApp : Board → ℕ → Type 0
@@ -21,4 +21,4 @@ pub record Untouched (board : Board) (f g : List ℕ) : Type 0 where
 -- Outside: whatever the session, fit or not, the flash, the setup, the data and the reply buffer, a call changes no byte outside
 -- the application blocks of the session, and not the flash's length
 abbrev pub Outside : Step → Type 0
-Outside step = (at : Site) (c : Call) → Untouched (at .session .board) (at .flash) (next step at c .flash)
+Outside step = (at : Site) (c : Call) → Untouched (at .session .board) (at .flash) (afterCall step at c .flash)

@@ -68,7 +68,7 @@ pub record Faulted (at : Site) (c : Call) (l : Leaves) : Type 0 where
 
 -- a DNLOAD in state 2 of the eight bytes of RESET, number 7
 pub record ResetCommand (at : Site) (c : Call) : Type 0 where
-  pub asked : (n : ℕ) × Form (c .setup) n Request.Dnload
+  pub in-form : (n : ℕ) × Form (c .setup) n Request.Dnload
   pub in-two : at .session .phase .state .0 ≡ 2
   pub eight : length (c .bytes) ≡ 8
   pub number : getD (c .bytes) 0 0 ≡ 7

@@ -13,13 +13,13 @@ use Rattle.request.specs.Request.{setupOf, formOf, requestOf, wLength, dataAske
 use Rattle.answers.specs.declared.Answer.{Answer}
 use Rattle.answers.specs.Answers.{Leaves, outcome, leaves}
 use Rattle.answers.specs.Moves.{toIdle, takenOf}
-use Rattle.jobs.specs.Job.{carriedOut}
+use Rattle.jobs.specs.Job.{jobDone}
 use Rattle.command.specs.Ready.{Ready}
 use Rattle.command.specs.Download.{dnloadOf}
 use Rattle.loader.specs.Reply.{getstatusOf}
 use Rattle.loader.specs.Upload.{uploadOf}
 use Rattle.loader.specs.Step.{ready, served, stepOf, withReply, decidedOf, settled, Decided}
-use Rattle.demands.specs.Calls.{Call, Site, called, next}
+use Rattle.demands.specs.Calls.{Call, Site, called, afterCall}
 use Rattle.demands.proofs.Ground.Prepared.{prepared-from, prepared-ready}
 use Rattle.demands.specs.Does.ReadBack.{Host, asks, replied, wasTaken, ranAfter, run}
 use Rattle.demands.specs.Does.ReadBack.{setupFor, dnload, upload, poll, abort}
@@ -34,7 +34,7 @@ pub on-taken :
     {A : Type 0} (at : Site) (c : Call) (go : List ℕ → Host A) (n : ℕ) (s : Session) (f reply : List ℕ)
     → called stepOf at c ≡ leaves (outcome Answer.Taken n s) f reply
     → run stepOf at (asks c go) ≡ run stepOf (siteOf s f) (go (take n reply))
-unfolding run next replied wasTaken ranAfter
+unfolding run afterCall replied wasTaken ranAfter
 on-taken {A} at c go n s f reply e =
     ap (λ (l : Leaves). ranAfter (wasTaken l) (run stepOf (siteOf (l .session) (l .flash)) (go (replied l)))) e
 
@@ -47,9 +47,9 @@ module _ (n : ℕ) (few : n ≤ 1024) where
   unfolding setupOf setupFor
   dnload-length = two-bytes
 
-  pub dnload-asked : dataAsked (setupFor 0x21 1 n) ≡ n
+  pub dnload-data-asked : dataAsked (setupFor 0x21 1 n) ≡ n
   unfolding dataAsked setupOf setupFor
-  dnload-asked = two-bytes
+  dnload-data-asked = two-bytes
 
   pub dnload-request : requestOf (setupFor 0x21 1 n) ≡ Request.Dnload
   unfolding formOf setupOf setupFor
@@ -65,11 +65,11 @@ is-no t x y e = ap (λ (b : Bool). cond b x y) e
 -- a ready call of an allowed request is served
 module _
     (s : Session) (f setup d reply : List ℕ) (r : Ready s f) (room : 1024 ≤ length reply)
-    (eight : length setup ≡ 8) (asked : length d ≡ dataAsked setup) where
+    (eight : length setup ≡ 8) (brought : length d ≡ dataAsked setup) where
   is-ready : ready s (length f) setup (length d) (length reply) ≡ true
   is-ready =
       let c : Call = record { setup = setup; bytes = d; reply = reply } in
-      prepared-ready (siteOf s f) c (prepared-from (siteOf s f) c eight room (r .sized) asked (r .fit))
+      prepared-ready (siteOf s f) c (prepared-from (siteOf s f) c eight room (r .sized) brought (r .fit))
 
   pub is-served :
       (q : Request) (n : ℕ) → requestOf setup ≡ q → wLength setup ≡ n → allowedOf q n (s .phase .state .0) ≡ true
@@ -89,23 +89,23 @@ module _ (s : Session) (f lent : List ℕ) (r : Ready s f) (room : 1024 ≤ leng
       → called stepOf (siteOf s f) (dnload lent d) ≡ finished (dnloadOf s f d) f d lent
   unfolding called dnload served setupFor
   dnload-called d few a =
-      is-served s f (setupFor 0x21 1 (length d)) d lent r room refl (sym (dnload-asked (length d) few)) Request.Dnload (length d)
+      is-served s f (setupFor 0x21 1 (length d)) d lent r room refl (sym (dnload-data-asked (length d) few)) Request.Dnload (length d)
       (dnload-request (length d) few) (dnload-length (length d) few) a
 
   pub upload-called :
       allowedOf Request.Upload 1024 (s .phase .state .0) ≡ true
       → called stepOf (siteOf s f) (upload lent) ≡ withFlash (uploadOf s f 1024 lent) f
-  unfolding called upload served settled carriedOut setupFor setupOf formOf dataAsked
+  unfolding called upload served settled jobDone setupFor setupOf formOf dataAsked
   upload-called a = is-served s f (setupFor 0xA1 2 1024) [] lent r room refl refl Request.Upload 1024 refl refl a
 
   pub poll-called :
       allowedOf Request.GetStatus 6 (s .phase .state .0) ≡ true
       → called stepOf (siteOf s f) (poll lent) ≡ withFlash (getstatusOf s lent) f
-  unfolding called poll served settled carriedOut setupFor setupOf formOf dataAsked
+  unfolding called poll served settled jobDone setupFor setupOf formOf dataAsked
   poll-called a = is-served s f (setupFor 0xA1 3 6) [] lent r room refl refl Request.GetStatus 6 refl refl a
 
   pub abort-called :
       allowedOf Request.Abort 0 (s .phase .state .0) ≡ true
       → called stepOf (siteOf s f) (abort lent) ≡ leaves (takenOf (toIdle s)) f lent
-  unfolding called abort served settled carriedOut setupFor setupOf formOf dataAsked
+  unfolding called abort served settled jobDone setupFor setupOf formOf dataAsked
   abort-called a = is-served s f (setupFor 0x21 6 0) [] lent r room refl refl Request.Abort 0 refl refl a

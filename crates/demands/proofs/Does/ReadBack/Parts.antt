@@ -20,7 +20,7 @@ use Rattle.numbers.proofs.Laws.{four-bytes}
 use Rattle.request.specs.Request.{allowedOf}
 use Rattle.answers.specs.Answers.{Done, leaves}
 use Rattle.answers.specs.Moves.{movedTo, toSync, takenOf}
-use Rattle.jobs.specs.Job.{carriedOut, wipeDone, sumsWiped}
+use Rattle.jobs.specs.Job.{jobDone, wipeDone, sumsWiped}
 use Rattle.jobs.specs.declared.Plan.{Plan}
 use Rattle.command.specs.Ready.{Ready}
 use Rattle.command.specs.Download.{dnloadOf, commandOf, byNumber, wellFormed, readOf, eraseOf}
@@ -66,7 +66,7 @@ pub read-called :
     → inApplication (s .board) block len ≡ true
     → called stepOf (siteOf s f) (dnload lent (readCommand block len))
     ≡ leaves (takenOf (inState s block len atCommand noDownload 0 (s .sums))) f lent
-unfolding readCommand wellFormed byNumber settled carriedOut readOf movedTo
+unfolding readCommand wellFormed byNumber settled jobDone readOf movedTo
 read-called s f lent block len r room in-idle prefixed legal =
     let small = near (s .board) block len (fit-kept s (r .fit) .split) legal in
     let the-block : wordAt (readCommand block len) 2 ≡ block = omega arith in
@@ -101,7 +101,7 @@ module _
       ≡ leaves (takenOf (inState base block len atCommand noDownload 0 (wiped-sums (base .board) block len sums f)))
       (erased f block (nextStart len))
       lent
-  unfolding eraseCommand wellFormed byNumber eraseOf settled carriedOut wipeDone sumsWiped movedTo
+  unfolding eraseCommand wellFormed byNumber eraseOf settled jobDone wipeDone sumsWiped movedTo
   erase-called =
       let s = inState base block len atIdle noDownload 0 sums in
       let small = near (base .board) block len split legal in

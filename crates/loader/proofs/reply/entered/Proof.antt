@@ -5,8 +5,8 @@ use Rattle.jobs.proofs.Picks.{yes-is, no-is}
 use mathlib.Core.Path.{refl, ap}
 use borrow.Author.Tests.{eq-eqb, ne-eqb}
 use Rattle.loader.specs.Reply.{entered}
-use Rattle.loader.proofs.reply.next.Statement.{statement}
-use Rattle.loader.proofs.reply.next.Tie as tie
+use Rattle.loader.proofs.reply.entered.Statement.{statement}
+use Rattle.loader.proofs.reply.entered.Tie as tie
 
 returns : tie.Need-returns
 unfolding entered
@@ -20,5 +20,5 @@ returns-3 : tie.Need-returns-3
 unfolding entered
 returns-3 c = no-is _ _ _ _ (ne-eqb _ _ (c .match .rest .0 .1)) (no-is _ _ _ _ (ne-eqb _ _ (c .match .rest .1)) refl)
 
-pub next-spec : {M : Type 1} → statement M
-next-spec = tie.close (tie.spec returns returns-2 returns-3)
+pub entered-spec : {M : Type 1} → statement M
+entered-spec = tie.close (tie.spec returns returns-2 returns-3)

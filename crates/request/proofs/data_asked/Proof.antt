@@ -3,8 +3,8 @@ use Rattle.request.specs.declared.Setup.{Setup}
 use mathlib.Core.Path.{ap}
 use Rattle.request.specs.Request.{dataAsked}
 use borrow.Author.Needs.{needs}
-use Rattle.request.proofs.asked.Statement.{statement}
-use Rattle.request.proofs.asked.Tie as tie
+use Rattle.request.proofs.data_asked.Statement.{statement}
+use Rattle.request.proofs.data_asked.Tie as tie
 
 parts-requires : tie.Need-parts-requires
 parts-requires c κs = search needs
@@ -19,5 +19,5 @@ returns-2 : tie.Need-returns-2
 unfolding dataAsked
 returns-2 c = rw (← c .before .before .before .parts .ensures, c .if1 .left)
 
-pub asked-spec : {M : Type 1} → statement M
-asked-spec = tie.close (tie.spec parts-requires returns returns-2)
+pub data-asked-spec : {M : Type 1} → statement M
+data-asked-spec = tie.close (tie.spec parts-requires returns returns-2)
