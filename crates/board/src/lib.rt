@@ -3,7 +3,7 @@
 use flash::Block;
 use session::Session;
 ghost use mathlib.Core.Path.{_≡_};
-ghost use Rattle.board.specs.Board.{startedOf, left, servedOf};
+ghost use Rattle.board.specs.Board.{startedOf, atBoard, requestedOf};
 
 // The session of a start, with its answer.
 #[repr(C)]
@@ -21,7 +21,7 @@ pub struct Reply {
 
 // A reply, with the session for the next call.
 #[repr(C)]
-struct Served {
+struct Handled {
     answer: Reply,
     session: Session,
 }
@@ -41,22 +41,22 @@ pub extern "C" fn mullirim_start(
     let answer = o.answer;
     let session = o.session;
     Started {
-        code: moves::number(answer),
+        code: answers::number(answer),
         session: session,
     }
 }
 
 // One request by value. It is apart from `mullirim_request`, whose proof is by hand, so that all but the store is proved as elsewhere.
-fn serve(session: Session, flash: &mut [u8], setup: &[u8], d: &[u8], reply: &mut [u8]) -> Served
-    ensures { λ r. ⌜ left (r .answer) (r .session) (now (flash .exit)) (now (reply .exit))
-        ≡ servedOf session (now (flash .entry)) (now (setup .entry)) (now (d .entry)) (now (reply .entry)) ⌝ }
+fn handle(session: Session, flash: &mut [u8], setup: &[u8], d: &[u8], reply: &mut [u8]) -> Handled
+    ensures { λ r. ⌜ atBoard (r .answer) (r .session) (now (flash .exit)) (now (reply .exit))
+        ≡ requestedOf session (now (flash .entry)) (now (setup .entry)) (now (d .entry)) (now (reply .entry)) ⌝ }
 {
     let o = loader::step(session, flash, setup, d, reply);
     let answer = o.answer;
     let next = o.session;
-    Served {
+    Handled {
         answer: Reply {
-            code: moves::number(answer),
+            code: answers::number(answer),
             count: o.count,
         },
         session: next,
@@ -72,10 +72,10 @@ pub extern "C" fn mullirim_request(
     d: &[u8],
     reply: &mut [u8],
 ) -> Reply
-    ensures { λ r. ⌜ left r (now (session .exit)) (now (flash .exit)) (now (reply .exit))
-        ≡ servedOf (now (session .entry)) (now (flash .entry)) (now (setup .entry)) (now (d .entry)) (now (reply .entry)) ⌝ }
+    ensures { λ r. ⌜ atBoard r (now (session .exit)) (now (flash .exit)) (now (reply .exit))
+        ≡ requestedOf (now (session .entry)) (now (flash .entry)) (now (setup .entry)) (now (d .entry)) (now (reply .entry)) ⌝ }
 {
-    let served = serve(*session, flash, setup, d, reply);
-    *session = served.session;
-    served.answer
+    let handled = handle(*session, flash, setup, d, reply);
+    *session = handled.session;
+    handled.answer
 }

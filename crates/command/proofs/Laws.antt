@@ -16,8 +16,8 @@ use Rattle.session.specs.Rules.{inApplication}
 use Rattle.session.specs.declared.Session.{Session}
 use Rattle.session.proofs.Laws.{fit-kept, fit-facts, split-facts, end-in-flash, end-after-start, inside-facts}
 use Rattle.session.proofs.Tests.{left-of}
-use Rattle.moves.specs.declared.Outcome.{Outcome}
-use Rattle.moves.specs.Moves.{movedTo, faultOf, resetOf}
+use Rattle.answers.specs.declared.Outcome.{Outcome}
+use Rattle.answers.specs.Moves.{movedTo, faultOf, resetOf}
 use Rattle.jobs.specs.declared.Plan.{Plan}
 use Rattle.jobs.specs.declared.Job.{Job}
 use Rattle.jobs.specs.Job.{planOf, Place, Can}

@@ -12,8 +12,8 @@ use Rattle.session.specs.Rules.{inApplication}
 use Rattle.session.specs.declared.Session.{Session}
 use Rattle.numbers.specs.Numbers.{wordAt, longAt}
 use Rattle.request.specs.Commands.{prog, read, check, erase, info, bin, reset}
-use Rattle.moves.specs.declared.Outcome.{Outcome}
-use Rattle.moves.specs.Moves.{movedTo, toSync, takenOf, faultOf, resetOf}
+use Rattle.answers.specs.declared.Outcome.{Outcome}
+use Rattle.answers.specs.Moves.{movedTo, toSync, takenOf, faultOf, resetOf}
 use Rattle.jobs.specs.declared.Plan.{Plan}
 use Rattle.jobs.specs.declared.Job.{Job}
 use Rattle.jobs.specs.Job.{planOf, bytesTo, wipeOf}

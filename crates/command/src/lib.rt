@@ -1,11 +1,11 @@
 // DNLOAD: the eight-byte commands in state idle, and pieces of data in state download idle. Flash is only read here: what is to be done
 // to it is answered as a job.
+use answers::Outcome;
 use flash::Addr;
 use flash::Block;
 use flash::Found;
 use jobs::Job;
 use jobs::Plan;
-use moves::Outcome;
 use request::Command;
 use session::Download;
 use session::Session;
@@ -43,7 +43,7 @@ fn write(s: Session, at: Addr, skip: u32, n: u32, left: u32) -> Plan
         place: Addr(at.0 + n),
         left: left,
     };
-    let o = moves::taken(moves::moved(
+    let o = answers::taken(answers::moved(
         s,
         State(State::DOWNLOAD_SYNC),
         Status(Status::OK),
@@ -59,7 +59,7 @@ fn write(s: Session, at: Addr, skip: u32, n: u32, left: u32) -> Plan
 fn fault(s: Session, status: u8) -> Plan
     ensures { λ r. ⌜ r ≡ faultPlan s status ⌝ }
 {
-    jobs::only(moves::faulted(s, status))
+    jobs::only(answers::faulted(s, status))
 }
 
 fn prog(s: Session, flash: &[u8], block: Block, len: u32, n: usize) -> Plan
@@ -82,13 +82,13 @@ fn read(s: Session, block: Block, len: u32) -> Outcome
     ensures { λ r. ⌜ r ≡ readOf s (block .0) len ⌝ }
 {
     if !session::in_application(s.board, block, len) {
-        return moves::faulted(s, Status::ADDRESS);
+        return answers::faulted(s, Status::ADDRESS);
     }
     let mut t = s;
     t.up.choice = Upload::FLASH_STREAM;
     t.up.first.0 = block.0;
     t.up.len = len;
-    moves::taken(moves::sync(t))
+    answers::taken(answers::sync(t))
 }
 
 fn check(s: Session, flash: &[u8], block: Block, len: u32) -> Outcome
@@ -96,12 +96,12 @@ fn check(s: Session, flash: &[u8], block: Block, len: u32) -> Outcome
     ensures { λ r. ⌜ r ≡ checkOf s (now (flash .entry)) (block .0) len ⌝ }
 {
     if !session::in_application(s.board, block, len) {
-        return moves::faulted(s, Status::ADDRESS);
+        return answers::faulted(s, Status::ADDRESS);
     }
     if erased(flash, block, len) {
-        return moves::taken(moves::sync(s));
+        return answers::taken(answers::sync(s));
     }
-    moves::faulted(s, Status::CHECK_ERASED)
+    answers::faulted(s, Status::CHECK_ERASED)
 }
 
 // Blocks are as many bytes as lie before the block of their number.
@@ -113,7 +113,7 @@ fn erase(s: Session, block: Block, count: u32) -> Plan
     if !session::in_application(s.board, block, size.0) {
         return fault(s, Status::ADDRESS);
     }
-    let o = moves::taken(moves::sync(s));
+    let o = answers::taken(answers::sync(s));
     Plan {
         outcome: o,
         job: Job::Wipe {
@@ -128,7 +128,7 @@ fn info(s: Session) -> Outcome
 {
     let mut t = s;
     t.up.choice = Upload::INFO_BYTES;
-    moves::taken(moves::sync(t))
+    answers::taken(answers::sync(t))
 }
 
 // BIN's byte to the prefix flag: not zero asks for the bytes alone.
@@ -147,7 +147,7 @@ fn bin(s: Session, flag: u8) -> Outcome
     let mut t = s;
     let on = prefix_for(flag);
     t.up.prefix = on;
-    moves::taken(moves::sync(t))
+    answers::taken(answers::sync(t))
 }
 
 fn well_formed(d: &[u8]) -> bool
@@ -175,7 +175,7 @@ fn by_number(s: Session, flash: &[u8], d: &[u8]) -> Plan
         Command::ERASE => erase(s, block, numbers::word(d, 4)),
         Command::INFO => jobs::only(info(s)),
         Command::BIN => jobs::only(bin(s, d[1])),
-        _ => jobs::only(moves::reset(s)),
+        _ => jobs::only(answers::reset(s)),
     }
 }
 
@@ -193,9 +193,9 @@ fn close(s: Session) -> Outcome
     ensures { λ r. ⌜ r ≡ closedOf s ⌝ }
 {
     if s.down.left != 0 {
-        return moves::faulted(s, Status::NOT_DONE);
+        return answers::faulted(s, Status::NOT_DONE);
     }
-    moves::taken(moves::manifest(s))
+    answers::taken(answers::manifest(s))
 }
 
 fn piece(s: Session, n: usize) -> Plan

@@ -1,16 +1,16 @@
 -- Our loader meets all that is demanded. Assumes nothing.
 use Rattle.loader.specs.Step.{startOutcome, stepOf}
 use Rattle.demands.specs.Demands.{MeetsDemands}
-use Rattle.demands.proofs.OneOutside.{outside-holds}
-use Rattle.demands.proofs.OneRefused.{refused-holds, unfit-exactly-holds, stalled-exactly-holds}
-use Rattle.demands.proofs.OneFit.{stays-fit-holds, starts-fit-holds, refused-start-holds}
-use Rattle.demands.proofs.TwoRows.{Rows-hold}
-use Rattle.demands.proofs.TwoCommands.{Commands-hold}
-use Rattle.demands.proofs.TwoWorks.{EraseWorks-holds, ProgramWorks-holds}
-use Rattle.demands.proofs.TwoStarts.{Starts-hold}
-use Rattle.demands.proofs.ThreeHistory.{history-holds, sums-stay}
-use Rattle.demands.proofs.ThreeNamed.{only-named-holds}
-use Rattle.demands.proofs.ReadBack.{ReadBack-holds}
+use Rattle.demands.proofs.Safe.Outside.{outside-holds}
+use Rattle.demands.proofs.Safe.Refused.{refused-holds, unfit-exactly-holds, stalled-exactly-holds}
+use Rattle.demands.proofs.Safe.Fit.{stays-fit-holds, starts-fit-holds, refused-start-holds}
+use Rattle.demands.proofs.Does.Rows.{Rows-hold}
+use Rattle.demands.proofs.Does.Commands.{Commands-hold}
+use Rattle.demands.proofs.Does.Works.{EraseWorks-holds, ProgramWorks-holds}
+use Rattle.demands.proofs.Does.Starts.{Starts-hold}
+use Rattle.demands.proofs.Kept.History.{history-holds, sums-stay}
+use Rattle.demands.proofs.Kept.Named.{only-named-holds}
+use Rattle.demands.proofs.Does.ReadBack.{ReadBack-holds}
 
 pub meets-demands : MeetsDemands startOutcome stepOf
 meets-demands =

@@ -3,7 +3,7 @@
 use Prim.Native.Nat.{ℕ}
 use mathlib.Core.List.{List, [], _∷_}
 use Rattle.session.specs.declared.Session.{Session}
-use Rattle.moves.specs.Answers.{Leaves, Told}
+use Rattle.answers.specs.Answers.{Leaves, Told}
 
 -- session, flash, setup, data and reply buffer to all that a call leaves
 abbrev pub Step : Type 0
@@ -37,9 +37,9 @@ unfoldable pub called : Step → Site → Call → Leaves
 called step at c = step (at .session) (at .flash) (c .setup) (c .bytes) (c .reply)
 
 -- the site after a call, and after a list of them
-unfoldable pub next : Step → Site → Call → Site
-next step at c = record { session = called step at c .session; flash = called step at c .flash }
+unfoldable pub afterCall : Step → Site → Call → Site
+afterCall step at c = record { session = called step at c .session; flash = called step at c .flash }
 
-unfoldable pub after : Step → Site → List Call → Site
-after step at [] = at
-after step at (c ∷ cs) = after step (next step at c) cs
+unfoldable pub afterCalls : Step → Site → List Call → Site
+afterCalls step at [] = at
+afterCalls step at (c ∷ cs) = afterCalls step (afterCall step at c) cs

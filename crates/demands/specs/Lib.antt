@@ -1,12 +1,8 @@
--- What the user is promised: the statements.
+-- What the user is promised: the statements. A loader is any start and step, and Demands is all that is demanded of one.
 pub mod Calls
 pub mod Asked
-pub mod One
-pub mod Two
-pub mod TwoCommands
-pub mod TwoStreams
-pub mod Three
-pub mod ReadBack
-pub mod Tied
+pub mod Safe
+pub mod Does
+pub mod Kept
+pub mod Exact
 pub mod Demands
-pub mod Determine

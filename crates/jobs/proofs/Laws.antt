@@ -13,11 +13,11 @@ use Rattle.sums.specs.Sum.{Split, refreshed}
 use Rattle.sums.specs.declared.Sums.{Sums}
 use Rattle.session.specs.Session.{appEnd}
 use Rattle.session.specs.declared.Board.{Board}
-use Rattle.moves.specs.declared.Outcome.{Outcome}
-use Rattle.moves.specs.Answers.{done}
+use Rattle.answers.specs.declared.Outcome.{Outcome}
+use Rattle.answers.specs.Answers.{done}
 use Rattle.jobs.specs.declared.Job.{Job}
 use Rattle.jobs.specs.declared.Job.the-variants.{Nothing, Bytes, Wipe}
-use Rattle.jobs.specs.Job.{Place, Can, storesFor, sumsAfter, sumsWiped, summed, bytesDone, wipeDone, carriedOut}
+use Rattle.jobs.specs.Job.{Place, Can, storesFor, sumsAfter, sumsWiped, summed, bytesDone, wipeDone, jobDone}
 
 -- a refresh of the same blocks
 pub same-refresh :
@@ -34,8 +34,8 @@ place-within board f at n s p = record { inside = omega arith; addressed = omega
 -- the flash that a job leaves is that of its single stores
 pub stores-made :
     (job : Job) (o : Outcome) (board : Board) (f d : List ℕ) → Can job board f d
-    → carriedOut job o f d .flash ≡ carried f (storesFor job d)
-unfolding carriedOut storesFor carried bytesDone wipeDone erased
+    → jobDone job o f d .flash ≡ carried f (storesFor job d)
+unfolding jobDone storesFor carried bytesDone wipeDone erased
 stores-made Nothing o board f d can = refl
 stores-made (Bytes at skip) o board f d can =
     let w = place-within board f (at .0) (length (drop skip d)) (can .1) (can .2) in
@@ -75,22 +75,22 @@ module _ (job : Job) (o : Outcome) (f d g : List ℕ) (sums : Sums) (r : Outcome
   pub bytes-left :
       (at : Addr) (skip : ℕ) (part : List ℕ) → job ≡ Bytes at skip → part ≡ drop skip d → g ≡ spliced f (at .0) part
       → sums ≡ sumsAfter (o .session .board) (o .session .sums) g (at .0) (length part)
-      → done r g ≡ carriedOut job o f d
-  unfolding carriedOut bytesDone
+      → done r g ≡ jobDone job o f d
+  unfolding jobDone bytesDone
   bytes-left at skip part told w p q =
       let anew : List ℕ → Sums = λ x. sumsAfter (o .session .board) (o .session .sums) x (at .0) (length part) in
       ap (λ (x : Outcome). done x g) (e ∙ ap (summed o) q)
       ∙ ap (λ (x : List ℕ). done (summed o (anew x)) x) p
       ∙ ap (bytesDone o f (at .0)) w
-      ∙ sym (ap (λ (j : Job). carriedOut j o f d) told)
+      ∙ sym (ap (λ (j : Job). jobDone j o f d) told)
 
   pub wipe-left :
       (first : Block) (count : ℕ) → job ≡ Wipe first count → g ≡ erased f (first .0) count
       → sums ≡ sumsWiped (o .session .board) (o .session .sums) g (first .0) count
-      → done r g ≡ carriedOut job o f d
-  unfolding carriedOut wipeDone
+      → done r g ≡ jobDone job o f d
+  unfolding jobDone wipeDone
   wipe-left first count told p q =
       let anew : List ℕ → Sums = λ x. sumsWiped (o .session .board) (o .session .sums) x (first .0) count in
       ap (λ (x : Outcome). done x g) (e ∙ ap (summed o) q)
       ∙ ap (λ (x : List ℕ). done (summed o (anew x)) x) p
-      ∙ sym (ap (λ (j : Job). carriedOut j o f d) told)
+      ∙ sym (ap (λ (j : Job). jobDone j o f d) told)

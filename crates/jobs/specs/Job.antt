@@ -11,8 +11,8 @@ use Rattle.sums.specs.Sum.{refreshed, Split}
 use Rattle.sums.specs.declared.Sums.{Sums}
 use Rattle.session.specs.Session.{appEnd, withSums}
 use Rattle.session.specs.declared.Board.{Board}
-use Rattle.moves.specs.declared.Outcome.{Outcome}
-use Rattle.moves.specs.Answers.{Done, outcome, done}
+use Rattle.answers.specs.declared.Outcome.{Outcome}
+use Rattle.answers.specs.Answers.{Done, outcome, done}
 use Rattle.jobs.specs.declared.Plan.{Plan}
 use Rattle.jobs.specs.declared.Job.{Job}
 use Rattle.jobs.specs.declared.Job.the-variants.{Nothing, Bytes, Wipe}
@@ -71,7 +71,7 @@ wipeDone o flash first count =
     (erased flash first count)
 
 -- an outcome once its job is carried out: the flash with the job's stores, and the sums of the blocks that they touch anew
-unfoldable pub carriedOut : Job → Outcome → List ℕ → List ℕ → Done
-carriedOut Nothing o flash d = done o flash
-carriedOut (Bytes at skip) o flash d = bytesDone o flash (at .0) (drop skip d)
-carriedOut (Wipe first count) o flash d = wipeDone o flash (first .0) count
+unfoldable pub jobDone : Job → Outcome → List ℕ → List ℕ → Done
+jobDone Nothing o flash d = done o flash
+jobDone (Bytes at skip) o flash d = bytesDone o flash (at .0) (drop skip d)
+jobDone (Wipe first count) o flash d = wipeDone o flash (first .0) count

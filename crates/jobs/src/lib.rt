@@ -1,7 +1,7 @@
 // What a call does to flash. Others decide it, and are lent flash to read only; here alone a job is carried out, and the sums with it.
+use answers::Outcome;
 use flash::Addr;
 use flash::Block;
-use moves::Outcome;
 use session::Board;
 use sums::Sums;
 ghost use Prim.Native.Nat.{_≤_};
@@ -9,8 +9,8 @@ ghost use mathlib.Core.Path.{_≡_};
 ghost use lib.ListN.{length};
 ghost use Rattle.sums.specs.Sum.{Split};
 ghost use Rattle.session.specs.Session.{appEnd};
-ghost use Rattle.moves.specs.Answers.{done};
-ghost use Rattle.jobs.specs.Job.{Place, Can, planOf, sumsAfter, summed, carriedOut};
+ghost use Rattle.answers.specs.Answers.{done};
+ghost use Rattle.jobs.specs.Job.{Place, Can, planOf, sumsAfter, summed, jobDone};
 ghost use Rattle.jobs.specs.declared.Job.{Job};
 
 pub enum Job {
@@ -75,7 +75,7 @@ fn with_sums(o: Outcome, sums: Sums) -> Outcome
 // The one function above `flash` that is lent flash to be changed.
 pub fn carry_out(plan: Plan, flash: &mut [u8], d: &[u8]) -> Outcome
     requires { ⌜ Can (plan .job) (plan .outcome .session .board) (now flash) (now d) ⌝ }
-    ensures { λ r. ⌜ done r (now (flash .exit)) ≡ carriedOut (plan .job) (plan .outcome) (now (flash .entry)) (now (d .entry)) ⌝ }
+    ensures { λ r. ⌜ done r (now (flash .exit)) ≡ jobDone (plan .job) (plan .outcome) (now (flash .entry)) (now (d .entry)) ⌝ }
 {
     let o = plan.outcome;
     let board = o.session.board;

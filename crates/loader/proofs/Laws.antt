@@ -22,12 +22,12 @@ use Rattle.session.proofs.Tests.{left-of, right-of, either, pick-most}
 use Rattle.request.specs.Request.{requestOf, wLength, dataAsked, allowedOf}
 use Rattle.request.specs.declared.Request.{Request}
 use Rattle.stream.proofs.Laws.{next-length}
-use Rattle.moves.specs.declared.Answer.{Answer}
-use Rattle.moves.specs.declared.Outcome.{Outcome}
-use Rattle.moves.specs.Answers.{Done, Replied, outcome, done, replied, leaves}
+use Rattle.answers.specs.declared.Answer.{Answer}
+use Rattle.answers.specs.declared.Outcome.{Outcome}
+use Rattle.answers.specs.Answers.{Done, Replied, outcome, done, replied, leaves}
 use Rattle.jobs.specs.declared.Plan.{Plan}
 use Rattle.jobs.specs.declared.Job.{Job}
-use Rattle.jobs.specs.Job.{planOf, Can, carriedOut}
+use Rattle.jobs.specs.Job.{planOf, Can, jobDone}
 use Rattle.jobs.proofs.Laws.{stores-made}
 use Rattle.command.specs.Ready.{Ready, Loading}
 use Rattle.command.specs.Download.{dnloadOf}
@@ -148,7 +148,7 @@ answer-told p o b w e q = ap (λ (y : Plan). decided y b) e ∙ ap answers q
 
 -- what is left once a plan is carried out, from what was decided
 pub so-settled :
-    (plan : Plan) (o : Outcome) (f d g b : List ℕ) (x : Decided) → done o g ≡ carriedOut (plan .job) (plan .outcome) f d
+    (plan : Plan) (o : Outcome) (f d g b : List ℕ) (x : Decided) → done o g ≡ jobDone (plan .job) (plan .outcome) f d
     → decided plan b ≡ x → leaves o g b ≡ settled x f d
 unfolding settled
 so-settled plan o f d g b x e q = ap (λ (y : Done). withReply y b) e ∙ ap (λ (y : Decided). settled y f d) q

@@ -9,8 +9,8 @@ use Rattle.session.specs.Session.{phaseOf, withPhase}
 use Rattle.session.specs.declared.Phase.{Phase}
 use Rattle.session.specs.declared.Session.{Session}
 use Rattle.numbers.specs.Numbers.{bytes3}
-use Rattle.moves.specs.declared.Answer.{Answer}
-use Rattle.moves.specs.Answers.{Replied, outcome, replied}
+use Rattle.answers.specs.declared.Answer.{Answer}
+use Rattle.answers.specs.Answers.{Replied, outcome, replied}
 
 -- taken, with bytes at the front of the reply and the rest untouched
 unfoldable pub answered : Session → List ℕ → List ℕ → Replied

@@ -13,14 +13,14 @@ use Rattle.session.specs.declared.Board.{Board}
 use Rattle.session.specs.declared.Session.{Session}
 use Rattle.request.specs.Request.{requestOf, wLength, dataAsked, allowedOf}
 use Rattle.request.specs.declared.Request.{Request}
-use Rattle.moves.specs.declared.Answer.{Answer}
-use Rattle.moves.specs.declared.Outcome.{Outcome}
-use Rattle.moves.specs.Answers.{Leaves, Told, Done, Replied, outcome, leaves, told}
-use Rattle.moves.specs.Moves.{toIdle, takenOf, stallOf, unfitOf}
+use Rattle.answers.specs.declared.Answer.{Answer}
+use Rattle.answers.specs.declared.Outcome.{Outcome}
+use Rattle.answers.specs.Answers.{Leaves, Told, Done, Replied, outcome, leaves, told}
+use Rattle.answers.specs.Moves.{toIdle, takenOf, stallOf, unfitOf}
 use Rattle.loader.specs.Reply.{getstatusOf, getstateOf, queryOf}
 use Rattle.jobs.specs.declared.Plan.{Plan}
 use Rattle.jobs.specs.declared.Job.{Job}
-use Rattle.jobs.specs.Job.{planOf, storesFor, carriedOut}
+use Rattle.jobs.specs.Job.{planOf, storesFor, jobDone}
 use Rattle.command.specs.Ready.{Ready}
 use Rattle.command.specs.Download.{dnloadOf}
 use Rattle.loader.specs.Upload.{uploadOf}
@@ -95,7 +95,7 @@ withReply x reply = leaves (x .outcome) (x .flash) reply
 
 -- what was decided, once it is carried out
 unfoldable pub settled : Decided → List ℕ → List ℕ → Leaves
-settled x flash d = withReply (carriedOut (x .plan .job) (x .plan .outcome) flash d) (x .reply)
+settled x flash d = withReply (jobDone (x .plan .job) (x .plan .outcome) flash d) (x .reply)
 
 -- a request: decided, then carried out
 unfoldable pub stepOf : Session → List ℕ → List ℕ → List ℕ → List ℕ → Leaves

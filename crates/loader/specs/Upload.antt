@@ -8,8 +8,8 @@ use Rattle.session.specs.Codes.{idle, uploadIdle, ok}
 use Rattle.session.specs.Session.{phaseOf, noDownload, upOf, withPhase, withDown, withUp}
 use Rattle.session.specs.declared.Session.{Session}
 use Rattle.stream.specs.Stream.{nextOf}
-use Rattle.moves.specs.Answers.{Replied}
-use Rattle.moves.specs.Moves.{toIdle}
+use Rattle.answers.specs.Answers.{Replied}
+use Rattle.answers.specs.Moves.{toIdle}
 use Rattle.loader.specs.Reply.{answered}
 
 -- where an answer starts: one begun in state idle at the stream's first byte

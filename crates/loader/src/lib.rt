@@ -1,8 +1,8 @@
 // The loader: a fresh start, and one request after another. It checks all that it is handed, so a board's programmer need not.
+use answers::Answer;
+use answers::Outcome;
 use flash::Block;
 use jobs::Plan;
-use moves::Answer;
-use moves::Outcome;
 use request::Request;
 use session::Board;
 use session::Session;
@@ -10,7 +10,7 @@ ghost use mathlib.Core.Path.{_≡_};
 ghost use mathlib.Core.Bool.{true};
 ghost use lib.ListN.{length};
 ghost use Rattle.request.specs.Request.{requestOf, wLength, allowedOf};
-ghost use Rattle.moves.specs.Answers.{leaves, told};
+ghost use Rattle.answers.specs.Answers.{leaves, told};
 ghost use Rattle.loader.specs.Step.{startable, startOutcome, ready, decided, served, decidedOf, stepOf, Served};
 
 mod reply;
@@ -55,7 +55,7 @@ fn is_ready(s: Session, flash_len: usize, setup: &[u8], data_len: usize, reply_l
     (setup.len() == 8)
         & (1024 <= reply_len)
         & s.board.b.ends(flash_len)
-        & (data_len == request::asked(setup) as usize)
+        & (data_len == request::data_asked(setup) as usize)
         & session::fit(s)
 }
 
@@ -68,11 +68,11 @@ fn serve(r: Request, s: Session, flash: &[u8], asked: u32, d: &[u8], reply: &mut
         Request::Dnload => command::dnload(s, flash, d),
         Request::Upload => jobs::only(upload::upload(s, flash, asked, reply)),
         Request::GetStatus => jobs::only(reply::getstatus(s, reply)),
-        Request::ClrStatus => jobs::only(moves::taken(moves::idle(s))),
+        Request::ClrStatus => jobs::only(answers::taken(answers::idle(s))),
         Request::GetState => jobs::only(reply::getstate(s, reply)),
-        Request::Abort => jobs::only(moves::taken(moves::idle(s))),
+        Request::Abort => jobs::only(answers::taken(answers::idle(s))),
         Request::Query => jobs::only(reply::query(s, reply)),
-        Request::Nothing => jobs::only(moves::stalled(s)),
+        Request::Nothing => jobs::only(answers::stalled(s)),
     }
 }
 
@@ -82,12 +82,12 @@ fn decide(s: Session, flash: &[u8], setup: &[u8], d: &[u8], reply: &mut [u8]) ->
         ≡ decidedOf s (now (flash .entry)) (now (setup .entry)) (now (d .entry)) (now (reply .entry)) ⌝ }
 {
     if !is_ready(s, flash.len(), setup, d.len(), reply.len()) {
-        return jobs::only(moves::unfit(s));
+        return jobs::only(answers::unfit(s));
     }
     let r = request::read_setup(setup);
     let asked = request::length_of(setup);
     if !request::allowed(r, asked, s.phase.state) {
-        return jobs::only(moves::stalled(s));
+        return jobs::only(answers::stalled(s));
     }
     serve(r, s, flash, asked, d, reply)
 }

@@ -1,13 +1,13 @@
 // The requests that answer bytes but stream none: GETSTATUS, GETSTATE and the query.
-use moves::Answer;
-use moves::Outcome;
+use answers::Answer;
+use answers::Outcome;
 use session::Phase;
 use session::Session;
 use session::State;
 ghost use Prim.Native.Nat.{_≤_};
 ghost use mathlib.Core.Path.{_≡_};
 ghost use lib.ListN.{length};
-ghost use Rattle.moves.specs.Answers.{replied};
+ghost use Rattle.answers.specs.Answers.{replied};
 ghost use Rattle.loader.specs.Reply.{answered, entered, polled, pollTime, getstatusOf, getstateOf, queryOf};
 
 // Taken, with the bytes at the front of the reply.
@@ -24,7 +24,7 @@ fn answer(s: Session, bytes: &[u8], reply: &mut [u8]) -> Outcome
 }
 
 // The state that a poll enters.
-fn next(phase: Phase) -> u8
+fn entered(phase: Phase) -> u8
     ensures { λ r. ⌜ r ≡ entered phase ⌝ }
 {
     let state = phase.state.0;
@@ -39,7 +39,7 @@ fn poll(s: Session) -> Session
     ensures { λ r. ⌜ r ≡ polled s ⌝ }
 {
     let mut t = s;
-    let state = next(s.phase);
+    let state = entered(s.phase);
     t.phase.state.0 = state;
     t.phase.after.0 = State::IDLE;
     t
@@ -57,7 +57,14 @@ pub fn getstatus(s: Session, reply: &mut [u8]) -> Outcome
     ensures { λ r. ⌜ replied r (now (reply .exit)) ≡ getstatusOf s (now (reply .entry)) ⌝ }
 {
     let wait = numbers::low3(poll_time(s));
-    let bytes = [s.phase.status.0, wait.0, wait.1, wait.2, next(s.phase), 0];
+    let bytes = [
+        s.phase.status.0,
+        wait.0,
+        wait.1,
+        wait.2,
+        entered(s.phase),
+        0,
+    ];
     answer(poll(s), &bytes, reply)
 }
 

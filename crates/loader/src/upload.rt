@@ -1,14 +1,14 @@
 // UPLOAD: how an upload goes through the chosen stream.
+use answers::Answer;
+use answers::Outcome;
 use flash::Addr;
-use moves::Answer;
-use moves::Outcome;
 use session::Session;
 use session::State;
 use session::Status;
 ghost use Prim.Native.Nat.{_+_, _≤_, _<_, _^_};
 ghost use mathlib.Core.Path.{_≡_};
 ghost use lib.ListN.{length};
-ghost use Rattle.moves.specs.Answers.{replied};
+ghost use Rattle.answers.specs.Answers.{replied};
 ghost use Rattle.command.specs.Ready.{Ready};
 ghost use Rattle.loader.specs.Upload.{placeOf, uploadEnds, uploadingAt, uploadedOf, uploadOf};
 
@@ -48,7 +48,7 @@ fn uploaded(s: Session, asked: u32, from: u32, given: u32) -> Session
     ensures { λ r. ⌜ r ≡ uploadedOf s asked given ⌝ }
 {
     if ends(asked, given) {
-        return moves::idle(s);
+        return answers::idle(s);
     }
     uploading(s, from + given)
 }

@@ -66,9 +66,9 @@ form-facts s kind number least most e =
     )
 
 -- a DNLOAD brings as many bytes as its wLength says, 1,024 at most
-pub dnload-asked : (bytes : List ℕ) → requestOf bytes ≡ Dnload → dataAsked bytes ≡ wLength bytes
+pub dnload-data-asked : (bytes : List ℕ) → requestOf bytes ≡ Dnload → dataAsked bytes ≡ wLength bytes
 unfolding dataAsked
-dnload-asked bytes e =
+dnload-data-asked bytes e =
     let s = setupOf bytes in
     let f = form-facts s 0x21 1 0 1024 (rw e at (form-right s)) in
     rw (f .0, f .1)

@@ -145,7 +145,7 @@ pub fn length_of(setup: &[u8]) -> u32
 }
 
 // How many data bytes come with the setup, of whatever form the rest is.
-pub fn asked(setup: &[u8]) -> u32
+pub fn data_asked(setup: &[u8]) -> u32
     ensures { λ r. ⌜ r ≡ dataAsked (now (setup .entry)) ⌝ }
 {
     let s = parts(setup);

@@ -6,7 +6,7 @@ use Rattle.crc.specs.Crc.{crcOf}
 use Rattle.sums.specs.Sum.{mostBlocks}
 use Rattle.numbers.specs.Numbers.{bytes4}
 use Rattle.session.specs.declared.Session.{Session}
-use Rattle.moves.specs.Answers.{Leaves}
+use Rattle.answers.specs.Answers.{Leaves}
 use Rattle.loader.specs.Step.{stepOf}
 use Rattle.script.specs.declared.line.Line.{Line}
 use Rattle.script.specs.declared.Turn.{Turn}

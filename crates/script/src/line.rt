@@ -1,10 +1,10 @@
 // What is written of a call: its answer in numbers, and the sums of all that it left.
+use answers::Outcome;
 use libc::STDOUT_FILENO;
-use moves::Outcome;
 use sums::MOST;
 ghost use mathlib.Core.Path.{_≡_};
 ghost use Rattle.crc.specs.Crc.{crcOf};
-ghost use Rattle.moves.specs.Answers.{leaves};
+ghost use Rattle.answers.specs.Answers.{leaves};
 ghost use Rattle.script.specs.Turn.{sumBytes, lineOf};
 
 // The last three are the sums of the kept block sums, of the whole reply buffer and of the flash.
@@ -41,7 +41,7 @@ pub fn line_of(outcome: Outcome, reply: &[u8], flash: &[u8]) -> Line
     let sums = outcome.session.sums;
     let block = sums.block;
     Line {
-        answer: moves::number(answer),
+        answer: answers::number(answer),
         count: outcome.count,
         state: outcome.session.phase.state.0,
         status: outcome.session.phase.status.0,
@@ -76,6 +76,6 @@ pub fn show(line: Line) {
 pub fn show_start(begun: Outcome) {
     let answer = begun.answer;
     io::write_all(STDOUT_FILENO, b"start ");
-    show_decimal(moves::number(answer));
+    show_decimal(answers::number(answer));
     show_hex(begun.session.sums.whole, b"\n");
 }

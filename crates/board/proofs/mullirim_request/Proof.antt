@@ -1,6 +1,6 @@
--- A walk by hand: the session's borrow is opened, the session is passed to `serve` by value with all that is lent, the session that
+-- A walk by hand: the session's borrow is opened, the session is passed to `handle` by value with all that is lent, the session that
 -- comes back is stored, the borrow is closed at it, and what the host hears is handed on. Nothing here knows the fields of a session,
--- and of `serve` only its contract. Assumes nothing.
+-- and of `handle` only its contract. Assumes nothing.
 use mathlib.Core.Path.{_≡_, refl, ap}
 use Prim.Native.Nat.{ℕ, _+_}
 use mathlib.Core.List.{[], _∷_, List}
@@ -48,17 +48,17 @@ use denote.Exit.{yes}
 use Rattle.session.specs.declared.Session.{Session}
 use Rattle.session.proofs.Session as T
 use Rattle.session.proofs.Session.Laws as T′
-use Rattle.board.specs.Board.{Left, left, servedOf}
+use Rattle.board.specs.Board.{AtBoard, atBoard, requestedOf}
 use Rattle.board.specs.declared.Reply.{Reply}
-use Rattle.board.specs.declared.Served.{Served}
+use Rattle.board.specs.declared.Handled.{Handled}
 use Rattle.board.proofs.Reply as N
 use Rattle.board.proofs.Reply.Laws as N′
-use Rattle.board.proofs.Served as O
-use Rattle.board.proofs.Served.Laws as O′
-use Rattle.board.proofs.serve as serve
-use Rattle.board.proofs.serve.Symbol as serve-def
-use Rattle.board.proofs.serve.Symbol.{name as #board·serve}
-use Rattle.board.proofs.serve.Met as serve-thm
+use Rattle.board.proofs.Handled as O
+use Rattle.board.proofs.Handled.Laws as O′
+use Rattle.board.proofs.handle as handle
+use Rattle.board.proofs.handle.Symbol as handle-def
+use Rattle.board.proofs.handle.Symbol.{name as #board·handle}
+use Rattle.board.proofs.handle.Met as handle-thm
 use Rattle.board.proofs.mullirim_request.Key.{name as #board·mullirim-request}
 use Rattle.board.proofs.mullirim_request as f
 use Rattle.board.proofs.mullirim_request.Statement as stated
@@ -94,9 +94,9 @@ lv l = sliceVal (l .ptr) (length (l .now))
 abbrev sized : (l : L) → Room u8 (length (l .now)) → WT (lv l)
 sized l r = (tt, (record { fits = r .0 }, tt))
 
--- what `serve` ensures, of its result and of the last lists
-abbrev Said : Left → Served → List ℕ → List ℕ → Type 0
-Said p r zf zr = left (r .answer) (r .session) zf zr ≡ p
+-- what `handle` ensures, of its result and of the last lists
+abbrev Said : AtBoard → Handled → List ℕ → List ℕ → Type 0
+Said p r zf zr = atBoard (r .answer) (r .session) zf zr ≡ p
 
 -- where a local stands, what it holds, and what a field of it holds: entry n of the context is its cell
 module _
@@ -114,16 +114,16 @@ module _
       → Part K W (nth 𝓤 H A n Γ) q τ (spotOf 𝓤 H E i .1) (spotOf 𝓤 H E i .2 + d) v back → Opd K W Γ E (copy (place i (field k ∷ []))) v
   field-in t n e p = load t (from t (fld t e (stop t))) (look-in t n p)
 
--- what whoever holds a result of `serve` knows of its two fields
-answer-owed : (r : Served) {vs : List Val} → Is O.the-row r vs → Is N.the-row (r .answer) (nv (r .answer) ∷ [])
+-- what whoever holds a result of `handle` knows of its two fields
+answer-owed : (r : Handled) {vs : List Val} → Is O.the-row r vs → Is N.the-row (r .answer) (nv (r .answer) ∷ [])
 answer-owed r is = LL.owed O.the-type O′.the-laws r _ is .0
 
-session-owed : (r : Served) {vs : List Val} → Is O.the-row r vs → Is T.the-row (r .session) (sv (r .session) ∷ [])
+session-owed : (r : Handled) {vs : List Val} → Is O.the-row r vs → Is T.the-row (r .session) (sv (r .session) ∷ [])
 session-owed r is = LL.owed O.the-type O′.the-laws r _ is .1 .0
 
 -- the contract that the proof cites
-abbrev Serve : {M : Type 1} (𝓤 : URA M) (H : Heap 𝓤) (A : Atoms 𝓤) (mem : Memory → SProp 𝓤) (run : Routine → Fun 𝓤) → Contract 𝓤
-Serve 𝓤 H A mem run = tripleOf 𝓤 H A serve.signature (serve.spec 𝓤 H A mem run)
+abbrev Handle : {M : Type 1} (𝓤 : URA M) (H : Heap 𝓤) (A : Atoms 𝓤) (mem : Memory → SProp 𝓤) (run : Routine → Fun 𝓤) → Contract 𝓤
+Handle 𝓤 H A mem run = tripleOf 𝓤 H A handle.signature (handle.spec 𝓤 H A mem run)
 
 module _
     {M : Type 1} (𝓤 : URA M) (H : Heap 𝓤) (A : Atoms 𝓤) (W : Given 𝓤 H A) (at-mem : Memory → SProp 𝓤) (run : Routine → Fun 𝓤) (κ : Lft)
@@ -161,12 +161,12 @@ module _
   Post = walkOf 𝓤 H A f.ended stayed claims .post bound
 
   -- what is to be left
-  abbrev p : Left
-  p = servedOf h (fl .now) (su .now) (da .now) (re .now)
+  abbrev p : AtBoard
+  p = requestedOf h (fl .now) (su .now) (da .now) (re .now)
 
-  -- the tokens and what the slices own, as `serve` takes them
+  -- the tokens and what the slices own, as `handle` takes them
   abbrev Toks : SProp 𝓤
-  Toks = alive 𝓤 H A serve.signature κs qs
+  Toks = alive 𝓤 H A handle.signature κs qs
 
   abbrev rows : List RattleType
   rows =
@@ -191,7 +191,7 @@ module _
       ∷ []
 
   exits :
-      (r : Served) (zf zr : List ℕ) → Said p r zf zr → length zf ≡ length (fl .now) → length zr ≡ length (re .now)
+      (r : Handled) (zf zr : List ℕ) → Said p r zf zr → length zf ≡ length (fl .now) → length zr ≡ length (re .now)
       → Is N.the-row (r .answer) (nv (r .answer) ∷ []) → ent 𝓤 (⋆ 𝓤 H A (Ends (r .session) zf zr)) (Post (nv (r .answer)))
   exits r zf zr e ef er fits =
       qed W (Ends (r .session) zf zr) ∵
@@ -205,21 +205,21 @@ module _
       owned ! N.the-row (Is N.the-row) (LL.makes N.the-type N′.the-plain 𝓤 H A) (r .answer) (nv (r .answer) ∷ []) fits $
       move ! (1 ∷ 0 ∷ []) $ done !
 
-  -- `serve`'s contract, and what it is called with
+  -- `handle`'s contract, and what it is called with
   abbrev callee : Contract 𝓤
-  callee = Serve 𝓤 H A at-mem run
+  callee = Handle 𝓤 H A at-mem run
 
-  abbrev to-serve : callee .Ghost
-  to-serve = ((κs, qs, tt, (h, lists), (sv h ∷ [], list-vals)), tt)
+  abbrev to-handle : callee .Ghost
+  to-handle = ((κs, qs, tt, (h, lists), (sv h ∷ [], list-vals)), tt)
 
   abbrev Passed : List (Item 𝓤)
   Passed = ‵ (T.the-row .own h (sv h ∷ [])) ∷ ‵ Lent ∷ raw Toks ∷ []
 
-  goes-serve : ent 𝓤 (⋆ 𝓤 H A Passed) (callee .pre to-serve)
-  goes-serve =
+  goes-handle : ent 𝓤 (⋆ 𝓤 H A Passed) (callee .pre to-handle)
+  goes-handle =
       qed W Passed ∵ fjoin ! $ move ! (1 ∷ 0 ∷ []) $ join ! $ nothing ! $ move ! (1 ∷ 0 ∷ []) $ frame ! $ done !
 
-  -- the last values that `serve`'s post binds: a list for each `&mut` slice, and nothing for the others
+  -- the last values that `handle`'s post binds: a list for each `&mut` slice, and nothing for the others
   abbrev Last : Type 0
   Last = Unit {0} × (List ℕ × (Unit {0} × (Unit {0} × (List ℕ × Unit {0}))))
 
@@ -229,16 +229,16 @@ module _
   abbrev last-reply : Last → List ℕ
   last-reply zs = zs .1 .1 .1 .1 .0
 
-  abbrev Told : Served → Last → Type 0
+  abbrev Told : Handled → Last → Type 0
   Told r zs = Said p r (last-flash zs) (last-reply zs)
 
-  -- what `serve` hands back, its result at w: the tokens, what the result owns, and what is ensured of it
-  abbrev Back : Val → Served → Item 𝓤
+  -- what `handle` hands back, its result at w: the tokens, what the result owns, and what is ensured of it
+  abbrev Back : Val → Handled → Item 𝓤
   Back w r =
       (raw Toks ⊛ ‵ (O.the-row .own r (w ∷ [])))
-      ⊛ raw (ensured 𝓤 H A serve.ended (serve.clauses 𝓤 H A at-mem run) κs (h, lists) tt r)
+      ⊛ raw (ensured 𝓤 H A handle.ended (handle.clauses 𝓤 H A at-mem run) κs (h, lists) tt r)
 
-  module _ (C : Calls 𝓤 H) (Λ : Loops 𝓤 H) (fm : FmC 𝓤 H (W .laws) C) (known : Triple 𝓤 (C #board·serve) callee) where
+  module _ (C : Calls 𝓤 H) (Λ : Loops 𝓤 H) (fm : FmC 𝓤 H (W .laws) C) (known : Triple 𝓤 (C #board·handle) callee) where
     walk :
         Room u8 (length (fl .now)) → Room u8 (length (su .now)) → Room u8 (length (da .now)) → Room u8 (length (re .now))
         → ent 𝓤 (onEntry 𝓤 H A f.signature (κ, κs) (q, qs) x at) (WpFn 𝓤 H C Λ code.function vals Post)
@@ -274,12 +274,12 @@ module _
         (init ! 7 refl (tt, sized re rr)) $
         -- the call
         owned ! T.the-row (Is T.the-row) (LL.makes T.the-type T′.the-plain 𝓤 H A) h (sv h ∷ []) was $
-        move ! (0 ∷ 7 ∷ 6 ∷ []) $ use3 W (raw (callee .pre to-serve)) goes-serve $
-        calls-at ! fm callee known to-serve
+        move ! (0 ∷ 7 ∷ 6 ∷ []) $ use3 W (raw (callee .pre to-handle)) goes-handle $
+        calls-at ! fm callee known to-handle
         (and-then ! (local ! 14 refl) (and-then ! (local ! 10 refl) (and-then ! (local ! 22 refl)
         (and-then ! (local ! 20 refl) (and-then ! (local ! 6 refl) (no-more !)))))) (λ w.
         use1 W (later (some (Back w))) (id⊢ 𝓤 _) $ await ! tt $ pick ! (λ r. split ! $ move ! (1 ∷ []) $
-        use1 W (some (λ (zs : Last). ‵ (lasts serve.ended κs (h, lists) zs) ⊛ raw (fact 𝓤 (Told r zs)))) (id⊢ 𝓤 _) $ pick ! (λ zs.
+        use1 W (some (λ (zs : Last). ‵ (lasts handle.ended κs (h, lists) zs) ⊛ raw (fact 𝓤 (Told r zs)))) (id⊢ 𝓤 _) $ pick ! (λ zs.
         split ! $ move ! (1 ∷ []) $ heard ! (Told r zs) (λ e.
         -- what is said of the last lists
         fsplit ! $ drop ! $ fsplit ! $ fsplit ! $ move ! (1 ∷ []) $ feqL ! (λ ef.
@@ -312,7 +312,7 @@ module _
 module _
     {M : Type 1} (𝓤 : URA M) (H : Heap 𝓤) (A : Atoms 𝓤) (W : Given 𝓤 H A) (at-mem : Memory → SProp 𝓤) (run : Routine → Fun 𝓤) where
   request-walks :
-      (C : Calls 𝓤 H) (Λ : Loops 𝓤 H) → FmC 𝓤 H (W .laws) C → Triple 𝓤 (C #board·serve) (Serve 𝓤 H A at-mem run)
+      (C : Calls 𝓤 H) (Λ : Loops 𝓤 H) → FmC 𝓤 H (W .laws) C → Triple 𝓤 (C #board·handle) (Handle 𝓤 H A at-mem run)
       → Walks 𝓤 H A f.ended stayed (WpFn 𝓤 H C Λ code.function) (f.clauses 𝓤 H A at-mem run)
   request-walks C Λ fm known =
       walked 𝓤 H A f.ended stayed (f.clauses 𝓤 H A at-mem run) (WpFn 𝓤 H C Λ code.function)
@@ -351,7 +351,7 @@ module _
 
 request-meets :
     {M : Type 1} (𝓤 : URA M) (H : Heap 𝓤) (A : Atoms 𝓤) → Given 𝓤 H A → (at-mem : Memory → SProp 𝓤) (run : Routine → Fun 𝓤)
-    (𝓣 : Tables 𝓤 H) → Triple 𝓤 (𝓣 .C #board·serve) (Serve 𝓤 H A at-mem run)
+    (𝓣 : Tables 𝓤 H) → Triple 𝓤 (𝓣 .C #board·handle) (Handle 𝓤 H A at-mem run)
     → Meets 𝓤 H A f.signature (WpFn 𝓤 H (𝓣 .C) (𝓣 .Λ) code.function) (f.spec 𝓤 H A at-mem run)
 request-meets 𝓤 H A W at-mem run 𝓣 known =
     walk-meets 𝓤 H A f.ended stayed W (goes 𝓤 H A W at-mem run) (f.clauses 𝓤 H A at-mem run)
@@ -364,5 +364,5 @@ mullirim-request-spec 𝓤 H 𝓜 𝓖 𝓡 =
     entered 𝓤 H (tripleOf 𝓤 H (𝓖 .A) f.signature (f.spec 𝓤 H (𝓖 .A) (𝓜 .mem) (𝓡 .run)))
     (tables 𝓤 H 𝓜 𝓡 code.env .C) (tables 𝓤 H 𝓜 𝓡 code.env .Λ) #board·mullirim-request code.function (code.unfolded 𝓤 H 𝓜 𝓡)
     (request-meets 𝓤 H (𝓖 .A) (givenOf 𝓤 H 𝓜 𝓖) (𝓜 .mem) (𝓡 .run) (tablesOf 𝓤 H 𝓜 (tables 𝓤 H 𝓜 𝓡 code.env))
-    (cited 𝓤 H (Serve 𝓤 H (𝓖 .A) (𝓜 .mem) (𝓡 .run)) 𝓜 𝓡 code.env #board·serve serve-def.routine code.calls-board·serve
-    (serve-thm.met 𝓤 H 𝓜 𝓖 𝓡)))
+    (cited 𝓤 H (Handle 𝓤 H (𝓖 .A) (𝓜 .mem) (𝓡 .run)) 𝓜 𝓡 code.env #board·handle handle-def.routine code.calls-board·handle
+    (handle-thm.met 𝓤 H 𝓜 𝓖 𝓡)))

@@ -3,7 +3,7 @@ use mathlib.Core.Path.{ap, _∙_}
 use Prim.Native.Nat.{ℕ}
 use Rattle.session.specs.Session.{withUp, upOf, noDownload}
 use Rattle.command.specs.Download.{binOf}
-use Rattle.moves.specs.Moves.{movedTo, takenOf, toSync}
+use Rattle.answers.specs.Moves.{movedTo, takenOf, toSync}
 use borrow.Author.Needs.{needs}
 use Rattle.command.proofs.bin.Statement.{statement}
 use Rattle.command.proofs.bin.Tie as tie

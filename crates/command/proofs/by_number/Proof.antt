@@ -2,7 +2,7 @@
 use Prim.Native.Nat.{ℕ, _-_}
 use mathlib.Core.Path.{sym, ap, ap₂, _∙_}
 use lib.ListN.{length}
-use Rattle.moves.specs.declared.Outcome.{Outcome}
+use Rattle.answers.specs.declared.Outcome.{Outcome}
 use Rattle.jobs.specs.declared.Job.{Job}
 use Rattle.jobs.specs.Job.{planOf}
 use Rattle.command.proofs.Laws.{last-command}

@@ -2,7 +2,7 @@
 use mathlib.Core.Path.{ap, _∙_}
 use Rattle.jobs.proofs.Picks.{yes-is, no-is, refused, passed, told}
 use Rattle.command.specs.Download.{checkOf}
-use Rattle.moves.specs.Moves.{takenOf}
+use Rattle.answers.specs.Moves.{takenOf}
 use Rattle.command.proofs.Laws.{ready-range}
 use borrow.Author.Needs.{needs}
 use Rattle.command.proofs.check.Statement.{statement}

@@ -3,7 +3,7 @@ use mathlib.Core.Path.{ap, _∙_}
 use borrow.Author.Tests.{eq-eqb, ne-eqb}
 use Rattle.jobs.proofs.Picks.{yes-is, no-is}
 use Rattle.command.specs.Download.{closedOf}
-use Rattle.moves.specs.Moves.{takenOf}
+use Rattle.answers.specs.Moves.{takenOf}
 use borrow.Author.Needs.{needs}
 use Rattle.command.proofs.close.Statement.{statement}
 use Rattle.command.proofs.close.Tie as tie

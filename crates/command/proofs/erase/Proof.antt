@@ -1,8 +1,8 @@
 -- A count of 16 bits is in reach; the rest by whether the range lies in the application. Assumes nothing.
 use mathlib.Core.Path.{ap, _∙_}
 use Rattle.session.specs.Rules.{inApplication}
-use Rattle.moves.specs.declared.Outcome.{Outcome}
-use Rattle.moves.specs.Moves.{takenOf}
+use Rattle.answers.specs.declared.Outcome.{Outcome}
+use Rattle.answers.specs.Moves.{takenOf}
 use Rattle.jobs.specs.Job.{planOf, wipeOf}
 use Rattle.jobs.proofs.Picks.{yes-is, no-is, refused, passed}
 use Rattle.command.specs.Download.{eraseOf}

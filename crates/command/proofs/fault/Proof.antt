@@ -1,6 +1,6 @@
 -- The fault, over a flash that stays. Assumes nothing.
 use mathlib.Core.Path.{ap, _∙_}
-use Rattle.moves.specs.declared.Outcome.{Outcome}
+use Rattle.answers.specs.declared.Outcome.{Outcome}
 use Rattle.jobs.specs.declared.Job.{Job}
 use Rattle.jobs.specs.Job.{planOf}
 use borrow.Author.Needs.{needs}

@@ -1,7 +1,7 @@
 -- The upload with one field changed, in download sync. Assumes nothing.
 use mathlib.Core.Path.{ap, _∙_}
 use Rattle.command.specs.Download.{infoOf}
-use Rattle.moves.specs.Moves.{movedTo, takenOf}
+use Rattle.answers.specs.Moves.{movedTo, takenOf}
 use borrow.Author.Needs.{needs}
 use Rattle.command.proofs.info.Statement.{statement}
 use Rattle.command.proofs.info.Tie as tie

@@ -4,7 +4,7 @@ use mathlib.Core.Logic.{inl}
 use native.Mathlib.Omega.{arith}
 use borrow.Author.Tests.{le-leb, lt-leb, eq-eqb, ne-eqb}
 use Rattle.session.proofs.Laws.{fit-facts, fit-kept, split-facts, end-in-flash}
-use Rattle.moves.specs.declared.Outcome.{Outcome}
+use Rattle.answers.specs.declared.Outcome.{Outcome}
 use Rattle.jobs.specs.declared.Job.{Job}
 use Rattle.jobs.specs.Job.{planOf}
 use Rattle.jobs.proofs.Picks.{yes-is, no-is}

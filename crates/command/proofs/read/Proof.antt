@@ -2,7 +2,7 @@
 use mathlib.Core.Path.{ap, _∙_}
 use Rattle.jobs.proofs.Picks.{yes-is, no-is, refused, passed}
 use Rattle.command.specs.Download.{readOf}
-use Rattle.moves.specs.Moves.{movedTo, takenOf}
+use Rattle.answers.specs.Moves.{movedTo, takenOf}
 use borrow.Author.Needs.{needs}
 use Rattle.command.proofs.read.Statement.{statement}
 use Rattle.command.proofs.read.Tie as tie

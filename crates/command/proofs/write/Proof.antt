@@ -1,7 +1,7 @@
 -- The outcome with its job. Assumes nothing.
 use mathlib.Core.Path.{ap, _∙_}
-use Rattle.moves.specs.declared.Outcome.{Outcome}
-use Rattle.moves.specs.Moves.{takenOf}
+use Rattle.answers.specs.declared.Outcome.{Outcome}
+use Rattle.answers.specs.Moves.{takenOf}
 use Rattle.jobs.specs.Job.{planOf, bytesTo}
 use Rattle.command.specs.Download.{wroteOf}
 use borrow.Author.Needs.{needs}

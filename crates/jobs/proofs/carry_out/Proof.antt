@@ -3,7 +3,7 @@ use mathlib.Core.Path.{sym, ap, refl, _∙_}
 use native.Mathlib.Omega.{arith}
 use lib.ListN.{length}
 use Rattle.jobs.specs.declared.Job.{Job}
-use Rattle.jobs.specs.Job.{sumsWiped, carriedOut}
+use Rattle.jobs.specs.Job.{sumsWiped, jobDone}
 use Rattle.jobs.proofs.Laws.{same-refresh, to-the-end, can-bytes, can-wipe, bytes-left, wipe-left}
 use borrow.Author.Needs.{needs}
 use Rattle.jobs.proofs.carry_out.Statement.{statement}
@@ -124,11 +124,11 @@ with-sums-requires-2 : tie.Need-with-sums-requires-2
 with-sums-requires-2 c κs = search needs
 
 returns : tie.Need-returns
-unfolding carriedOut
+unfolding jobDone
 returns c =
     let m = c .before .before in
     let s = m .before .before .before .before .before in
-    sym (ap (λ (j : Job). carriedOut j (s .args .plan .outcome) (s .args .flash .now) (s .args .d .now)) (c .enum-told .given .1))
+    sym (ap (λ (j : Job). jobDone j (s .args .plan .outcome) (s .args .flash .now) (s .args .d .now)) (c .enum-told .given .1))
 
 same-length : tie.Need-same-length
 same-length c = search needs

@@ -2,7 +2,7 @@
 use mathlib.Core.Path.{sym, ap, _∙_}
 use Rattle.request.specs.Request.{allowedOf}
 use Rattle.request.specs.declared.Request.{Request}
-use Rattle.moves.specs.Moves.{takenOf}
+use Rattle.answers.specs.Moves.{takenOf}
 use Rattle.jobs.specs.declared.Plan.{Plan}
 use Rattle.loader.specs.Step.{decided, served}
 use Rattle.loader.proofs.Laws.{allowed-loading, as-told, only-told, answer-told}

@@ -3,8 +3,8 @@ use mathlib.Core.Path.{refl, ap, _∙_}
 use Rattle.sums.specs.Sum.{freshSums}
 use Rattle.session.specs.Session.{boardOf, freshOf}
 use Rattle.session.specs.declared.Session.{Session}
-use Rattle.moves.specs.Answers.{outcome, told}
-use Rattle.moves.specs.declared.Answer.{Answer}
+use Rattle.answers.specs.Answers.{outcome, told}
+use Rattle.answers.specs.declared.Answer.{Answer}
 use Rattle.jobs.proofs.Picks.{yes-is, no-is, refused, passed}
 use Rattle.loader.specs.Step.{startOutcome, freshStart}
 use Rattle.loader.proofs.Laws.{start-ground, start-split}

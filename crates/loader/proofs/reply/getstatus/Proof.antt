@@ -15,8 +15,8 @@ poll-time-requires c κs = search needs
 low3-requires : tie.Need-low3-requires
 low3-requires c κs = search needs
 
-next-requires : tie.Need-next-requires
-next-requires c κs = search needs
+entered-requires : tie.Need-entered-requires
+entered-requires c κs = search needs
 
 poll-requires : tie.Need-poll-requires
 poll-requires c κs = search needs
@@ -43,8 +43,8 @@ returns c =
     let made : List ℕ → ℕ → List ℕ = λ x e. (status ∷ []) ++ x ++ (e ∷ 0 ∷ []) in
     let reply = s .args .reply .now in
     k .answer .ensures
-    ∙ ap (λ (t : Session). answered t (made (w .0 ∷ w .1 ∷ w .2 ∷ []) (p .before .next .result)) reply) (p .poll .ensures)
-    ∙ ap₂ (λ (x : List ℕ) (e : ℕ). answered (polled (s .args .s)) (made x e) reply) wait (p .before .next .ensures)
+    ∙ ap (λ (t : Session). answered t (made (w .0 ∷ w .1 ∷ w .2 ∷ []) (p .before .entered .result)) reply) (p .poll .ensures)
+    ∙ ap₂ (λ (x : List ℕ) (e : ℕ). answered (polled (s .args .s)) (made x e) reply) wait (p .before .entered .ensures)
 
 pub getstatus-spec : {M : Type 1} → statement M
 getstatus-spec =
@@ -52,7 +52,7 @@ getstatus-spec =
     (tie.spec
     poll-time-requires
     low3-requires
-    next-requires
+    entered-requires
     poll-requires
     slice-aggregate-answer
     answer-requires

@@ -7,14 +7,14 @@ use borrow.Author.Needs.{needs}
 use Rattle.loader.proofs.reply.poll.Statement.{statement}
 use Rattle.loader.proofs.reply.poll.Tie as tie
 
-next-requires : tie.Need-next-requires
-next-requires c κs = search needs
+entered-requires : tie.Need-entered-requires
+entered-requires c κs = search needs
 
 returns : tie.Need-returns
 unfolding polled
 returns c =
     let s = c .before .before .before .args .s in
-    ap (λ (x : ℕ). withPhase s (phaseOf x (s .phase .status .0) 2)) (c .before .before .next .ensures)
+    ap (λ (x : ℕ). withPhase s (phaseOf x (s .phase .status .0) 2)) (c .before .before .entered .ensures)
 
 pub poll-spec : {M : Type 1} → statement M
-poll-spec = tie.close (tie.spec next-requires returns)
+poll-spec = tie.close (tie.spec entered-requires returns)

@@ -1,0 +1,16 @@
+-- `moved` to that state, with no download. Assumes nothing.
+use borrow.Author.Needs.{needs}
+use Rattle.answers.proofs.sync.Statement.{statement}
+use Rattle.answers.proofs.sync.Tie as tie
+
+none-requires : tie.Need-none-requires
+none-requires c κs = search needs
+
+moved-requires : tie.Need-moved-requires
+moved-requires c κs = search needs
+
+returns : tie.Need-returns
+returns c = cc
+
+pub sync-spec : {M : Type 1} → statement M
+sync-spec = tie.close (tie.spec none-requires moved-requires returns)

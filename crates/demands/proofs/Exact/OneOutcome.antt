@@ -1,0 +1,31 @@
+-- No second outcome fits: each promise determines what a call leaves. Assumes nothing.
+use Prim.Native.Nat.{ℕ, zero, suc}
+use mathlib.Core.Path.{_≡_, refl, sym, ap, _∙_}
+use Rattle.answers.specs.declared.Answer.{Answer}
+use Rattle.answers.specs.Answers.{answerNumber}
+use Rattle.demands.specs.Exact.OneOutcome.{OneOutcome}
+
+-- the answer of a number
+ofNumber : ℕ → Answer
+ofNumber zero = Answer.Taken
+ofNumber (suc zero) = Answer.Stalled
+ofNumber (suc (suc zero)) = Answer.Unfit
+ofNumber (suc (suc (suc zero))) = Answer.Faulted
+ofNumber (suc (suc (suc (suc n)))) = Answer.ResetAsked
+
+back : (x : Answer) → ofNumber (answerNumber x) ≡ x
+unfolding ofNumber
+back Answer.Taken = refl
+back Answer.Stalled = refl
+back Answer.Unfit = refl
+back Answer.Faulted = refl
+back Answer.ResetAsked = refl
+
+pub OneOutcome-holds : OneOutcome
+OneOutcome-holds =
+    record {
+      equation = λ said left other e h. e ∙ sym h;
+      sent = λ n m before after other bytes e h. (e .count ∙ sym (h .count), e .reply ∙ sym (h .reply));
+      word = λ bytes at r q e h. e .0 ∙ sym (h .0);
+      answer = λ x y e. sym (back x) ∙ ap ofNumber e ∙ back y;
+    }

@@ -1,0 +1,7 @@
+-- What the proofs share: when a call is prepared, the ways through a call, what each leaves, flash byte by byte, the examples' board.
+pub mod Prepared
+pub mod Served
+pub mod Finished
+pub mod Ways
+pub mod Bytes
+pub mod SmallBoard

@@ -1,0 +1,4 @@
+-- What is kept over any history (demand 3). Examples: its premises can be met.
+pub mod History
+pub mod Named
+pub mod Examples

@@ -1,0 +1,239 @@
+-- The answers that refuse leave what their definitions write down, and a call is unfit by the first test alone. Assumes nothing.
+use Prim.Native.Nat.{ℕ, _-_}
+use mathlib.Core.Bool.{Bool, true, false, cond, false≢true}
+use mathlib.Core.Logic.{inr}
+use mathlib.Core.Path.{_≡_, refl, sym, ap, _∙_, subst, subst⁻¹}
+use native.Mathlib.Omega.{arith}
+use borrow.Author.Tests.{eq-eqb, ne-eqb}
+use lib.ListN.{length}
+use Rattle.flash.specs.Flash.{startOf}
+use Rattle.session.specs.Session.{appEnd, phaseOf, downOf, upOf, wholeUpload, freshOf}
+use Rattle.session.specs.declared.Phase.{Phase}
+use Rattle.session.specs.declared.Download.{Download}
+use Rattle.session.specs.declared.Upload.{Upload}
+use Rattle.session.specs.declared.Session.{Session}
+use Rattle.request.specs.Request.{wLength, requestOf, allowedOf}
+use Rattle.request.specs.declared.Request.{Request}
+use Rattle.answers.specs.Answers.{Leaves, leaves}
+use Rattle.answers.specs.Moves.{movedTo, toError, stallOf, unfitOf, faultOf, resetOf}
+use Rattle.jobs.specs.Job.{jobDone}
+use Rattle.command.specs.Download.{infoOf, binOf}
+use Rattle.command.proofs.Laws.{pick}
+use Rattle.loader.specs.Reply.{getstatusOf, getstateOf, queryOf, answered}
+use Rattle.loader.specs.Upload.{uploadOf}
+use Rattle.loader.specs.Step.{ready, served, stepOf, decidedOf, only, Decided, settled}
+use Rattle.demands.specs.Calls.{heard, Call, Site, called}
+use Rattle.demands.specs.Asked.{Prepared, Form, Allowed, NoRequest}
+use Rattle.demands.specs.Safe.Refused.{Settled, InError, Stalled, FaultStatus, Faulted, AsFresh, AnswerRows, Refused}
+use Rattle.demands.specs.Safe.Refused.{UnfitExactly, StalledExactly}
+use Rattle.demands.proofs.Ground.Ways.{every-way}
+use Rattle.demands.proofs.Ground.Prepared.{prepared-ready, ready-prepared}
+use Rattle.demands.proofs.Does.Forms.{request-form, no-request, asks-stalled}
+use Rattle.demands.proofs.Ground.Finished.{storedOf}
+
+-- a session with these groups is settled
+so-settled :
+    (s t : Session) (state status choice flag first len : ℕ) → t .board ≡ s .board → t .phase ≡ phaseOf state status 2
+    → t .down ≡ downOf 0 0 → t .up ≡ upOf choice flag first len 0 → t .sums ≡ s .sums
+    → Settled s t state status choice flag first len
+so-settled s t state status choice flag first len board phase down up sums =
+    record {
+      board = board;
+      in-state = ap (λ (p : Phase). p .state .0) phase;
+      told = ap (λ (p : Phase). p .status .0) phase;
+      after-sync = ap (λ (p : Phase). p .after .0) phase;
+      down-place = ap (λ (d : Download). d .place .0) down;
+      down-left = ap (λ (d : Download). d .left) down;
+      chosen = ap (λ (u : Upload). u .choice) up;
+      prefix-flag = ap (λ (u : Upload). u .«prefix») up;
+      range-first = ap (λ (u : Upload). u .first .0) up;
+      range-length = ap (λ (u : Upload). u .len) up;
+      up-place = ap (λ (u : Upload). u .place) up;
+      sums = sums;
+    }
+
+-- what a move to state 10 leaves, and what a RESET does
+errored : (s : Session) (status : ℕ) → InError s (toError s status) status
+unfolding movedTo
+errored s status =
+    so-settled s (toError s status) 10 status (s .up .choice) (s .up .«prefix») (s .up .first .0) (s .up .len) refl refl refl refl refl
+
+freshened : (s : Session) → AsFresh s (resetOf s .session)
+unfolding resetOf freshOf wholeUpload
+freshened s =
+    so-settled s (resetOf s .session) 2 0 0 1 (s .board .a .0) (startOf (appEnd (s .board) - s .board .a .0)) refl refl refl refl refl
+
+stalled-row :
+    (at : Site) (c : Call) → NoRequest at c
+    → Stalled at c (leaves (stallOf (at .session)) (at .flash) (c .reply))
+unfolding stallOf
+stalled-row at c n =
+    let s = at .session in
+    record {
+      when = n;
+      quiet = record { count = refl; flash = refl; reply = refl };
+      in-ten = λ e. rw (eq-eqb (s .phase .state .0) 10 e);
+      elsewhere = λ n. rw (ne-eqb (s .phase .state .0) 10 n) (errored s 0x0F);
+    }
+
+-- a call that is taken is in none of the rows
+taken : (at : Site) (c : Call) (l : Leaves) → heard l ≡ 0 → AnswerRows at c l
+taken at c l e =
+    record {
+      stalled = λ h. absurd (omega arith);
+      unfit = λ h. absurd (omega arith);
+      faulted = λ h. absurd (omega arith);
+      reset-asked = λ h. absurd (omega arith);
+    }
+
+faulted-row :
+    (at : Site) (c : Call) → ((n : ℕ) × Form (c .setup) n Request.Dnload) → (status : ℕ) → FaultStatus status
+    → Faulted at c (leaves (faultOf (at .session) status) (at .flash) (c .reply))
+unfolding faultOf movedTo
+faulted-row at c q status h =
+    record {
+      when = q;
+      quiet = record { count = refl; flash = refl; reply = refl };
+      status = h;
+      in-error = errored (at .session) status;
+    }
+
+-- the rows of a prepared call, and of any other
+in-form : (at : Site) (c : Call) → Prepared at c → requestOf (c .setup) ≡ Request.Dnload → (n : ℕ) × Form (c .setup) n Request.Dnload
+in-form at c p q = (
+  wLength (c .setup),
+  request-form (c .setup) (p .setup-bytes) Request.Dnload q (λ z. subst (λ (r : Request). Allowed r 0 5) z (inr refl)),
+)
+
+prepared-rows : (at : Site) (c : Call) → Prepared at c → AnswerRows at c (called stepOf at c)
+unfolding called storedOf infoOf binOf unfitOf stallOf faultOf resetOf getstatusOf getstateOf queryOf answered uploadOf
+prepared-rows at c p =
+    let s = at .session in
+    every-way s (at .flash) (c .setup) (c .bytes) (c .reply) (AnswerRows at c)
+    (record {
+      unfits = λ e. absurd (false≢true (sym e ∙ prepared-ready at c p));
+      stalls = λ _ n.
+          record {
+            stalled = λ _. stalled-row at c (no-request at c p n);
+            unfit = λ h. absurd (omega arith);
+            faulted = λ h. absurd (omega arith);
+            reset-asked = λ h. absurd (omega arith);
+          };
+      faults = λ _ q status h.
+          record {
+            stalled = λ h. absurd (omega arith);
+            unfit = λ h. absurd (omega arith);
+            faulted = λ _. faulted-row at c (in-form at c p q) status h;
+            reset-asked = λ h. absurd (omega arith);
+          };
+      programs = λ _ _ _ _. taken at c _ refl;
+      pieces = λ _ _. taken at c _ refl;
+      closes = λ _. taken at c _ refl;
+      reads = λ _ _. taken at c _ refl;
+      checks = λ _. taken at c _ refl;
+      erases = λ _ _ _. taken at c _ refl;
+      informs = λ _. taken at c _ refl;
+      bins = λ _. taken at c _ refl;
+      resets = λ l n k.
+          record {
+            stalled = λ h. absurd (omega arith);
+            unfit = λ h. absurd (omega arith);
+            faulted = λ h. absurd (omega arith);
+            reset-asked = λ _.
+                record {
+                  when = record { in-form = in-form at c p (l .is-dnload); in-two = l .here; eight = n; number = k };
+                  quiet = record { count = refl; flash = refl; reply = refl };
+                  as-fresh = freshened s;
+                };
+          };
+      uploads = λ _ _. taken at c _ refl;
+      polls = λ _ _. taken at c _ refl;
+      tells = λ _ _. taken at c _ refl;
+      queries = λ _ _. taken at c _ refl;
+      idles = λ _. taken at c _ refl;
+    })
+
+unfit-rows : (at : Site) (c : Call) → AnswerRows at c (leaves (unfitOf (at .session)) (at .flash) (c .reply))
+unfolding unfitOf
+unfit-rows at c =
+    record {
+      stalled = λ h. absurd (omega arith);
+      unfit = λ _. record { quiet = record { count = refl; flash = refl; reply = refl }; session = refl };
+      faulted = λ h. absurd (omega arith);
+      reset-asked = λ h. absurd (omega arith);
+    }
+
+-- a call that the first test refuses
+unready :
+    (at : Site) (c : Call) → ready (at .session) (length (at .flash)) (c .setup) (length (c .bytes)) (length (c .reply)) ≡ false
+    → called stepOf at c ≡ leaves (unfitOf (at .session)) (at .flash) (c .reply)
+unfolding called stepOf decidedOf settled jobDone
+unready at c e = rw e
+
+pub refused-holds : Refused stepOf
+refused-holds at c = go (ready (at .session) (length (at .flash)) (c .setup) (length (c .bytes)) (length (c .reply))) refl
+  where
+    go :
+        (t : Bool) → ready (at .session) (length (at .flash)) (c .setup) (length (c .bytes)) (length (c .reply)) ≡ t
+        → AnswerRows at c (called stepOf at c)
+    go true e = prepared-rows at c (ready-prepared at c e)
+    go false e = subst⁻¹ (AnswerRows at c) (unready at c e) (unfit-rows at c)
+
+module _ (at : Site) (c : Call) where
+  unprepared-unfit : (Prepared at c → ⊥) → heard (called stepOf at c) ≡ 2
+  unfolding called stepOf decidedOf settled jobDone unfitOf
+  unprepared-unfit n =
+      pick (λ (x : Decided). heard (settled x (at .flash) (c .bytes)) ≡ 2)
+      (ready (at .session) (length (at .flash)) (c .setup) (length (c .bytes)) (length (c .reply))) _ _
+      (λ e. absurd (n (ready-prepared at c e))) (λ _. refl)
+
+  prepared-served : Prepared at c → heard (called stepOf at c) ≡ 2 → ⊥
+  unfolding called storedOf infoOf binOf stallOf faultOf resetOf getstatusOf getstateOf queryOf answered uploadOf
+  prepared-served p =
+      every-way (at .session) (at .flash) (c .setup) (c .bytes) (c .reply) (λ (l : Leaves). heard l ≡ 2 → ⊥)
+      (record {
+        unfits = λ e _. false≢true (sym e ∙ prepared-ready at c p);
+        stalls = λ _ _ h. omega arith;
+        faults = λ _ _ _ _ h. omega arith;
+        programs = λ _ _ _ _ h. omega arith;
+        pieces = λ _ _ h. omega arith;
+        closes = λ _ h. omega arith;
+        reads = λ _ _ h. omega arith;
+        checks = λ _ h. omega arith;
+        erases = λ _ _ _ h. omega arith;
+        informs = λ _ h. omega arith;
+        bins = λ _ h. omega arith;
+        resets = λ _ _ _ h. omega arith;
+        uploads = λ _ _ h. omega arith;
+        polls = λ _ _ h. omega arith;
+        tells = λ _ _ h. omega arith;
+        queries = λ _ _ h. omega arith;
+        idles = λ _ h. omega arith;
+      })
+
+pub unfit-exactly-holds : UnfitExactly stepOf
+unfit-exactly-holds = record { unprepared = unprepared-unfit; prepared = prepared-served }
+
+-- whether the table allows what a setup is read as
+abbrev pub allowedCall : Site → Call → Bool
+allowedCall at c = allowedOf (requestOf (c .setup)) (wLength (c .setup)) (at .session .phase .state .0)
+
+-- a prepared call goes on to form and state
+pub goes-on :
+    (at : Site) (c : Call) → Prepared at c
+    → called stepOf at c
+    ≡ settled
+    (cond (allowedCall at c)
+    (served (requestOf (c .setup)) (at .session) (at .flash) (wLength (c .setup)) (c .bytes) (c .reply))
+    (only (stallOf (at .session)) (c .reply))) (at .flash)
+    (c .bytes)
+unfolding called stepOf decidedOf
+goes-on at c p = rw (prepared-ready at c p)
+
+unallowed-stalls : (at : Site) (c : Call) → Prepared at c → NoRequest at c → heard (called stepOf at c) ≡ 1
+unfolding stallOf
+unallowed-stalls at c p none = ap heard (asks-stalled at c p none)
+
+pub stalled-exactly-holds : StalledExactly stepOf
+stalled-exactly-holds =
+    record { not-allowed = unallowed-stalls; allowed = λ at c r n form a h. refused-holds at c .stalled h .when r n form a }

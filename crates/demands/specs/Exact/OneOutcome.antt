@@ -1,0 +1,22 @@
+-- Exact: no second outcome fits.
+use Prim.Native.Nat.{ℕ, _<_}
+use mathlib.Core.List.{List}
+use mathlib.Core.Path.{_≡_}
+use Rattle.numbers.specs.Numbers.{wordAt}
+use Rattle.stream.specs.Stream.{Sent}
+use Rattle.answers.specs.declared.Answer.{Answer}
+use Rattle.answers.specs.Answers.{answerNumber}
+
+-- no second outcome fits, on the refused inputs too
+pub record OneOutcome : Type 1 where
+  -- the promise of every public call but two is an equation: all that it leaves, as one value, is what one definition says
+  pub equation : {A : Type 0} (said left other : A) → left ≡ said → other ≡ said → left ≡ other
+  -- stream::send promises a count and the reply buffer apart
+  pub sent :
+      (n m : ℕ) (before after other bytes : List ℕ) → Sent n before after bytes → Sent m before other bytes
+      → (n ≡ m) × (after ≡ other)
+  -- numbers::word promises a bound beside its equation
+  pub word :
+      (bytes : List ℕ) (at r q : ℕ) → (r ≡ wordAt bytes at) × (r < 65536) → (q ≡ wordAt bytes at) × (q < 65536) → r ≡ q
+  -- and an answer is told by its number
+  pub answer : (x y : Answer) → answerNumber x ≡ answerNumber y → x ≡ y
