@@ -74,7 +74,7 @@ pub fn idle(s: Session) -> Session
     )
 }
 
-pub fn error(s: Session, status: u8) -> Session
+fn error(s: Session, status: u8) -> Session
     ensures { λ r. ⌜ r ≡ toError s status ⌝ }
 {
     moved(

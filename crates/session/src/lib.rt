@@ -138,7 +138,7 @@ pub fn app_end(board: Board) -> Block
 }
 
 // The bytes of the chosen stream; 64 bits hold the sum at any length.
-pub fn stream_length(up: Upload) -> u64
+fn stream_length(up: Upload) -> u64
     ensures { λ r. ⌜ r ≡ streamLength up ⌝ }
 {
     if up.choice == Upload::INFO_BYTES {

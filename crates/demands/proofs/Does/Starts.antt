@@ -2,9 +2,6 @@
 use Prim.Native.Nat.{ℕ}
 use mathlib.Core.List.{List}
 use mathlib.Core.Path.{refl}
-use native.Mathlib.Omega.{arith}
-use Rattle.flash.specs.Flash.{blank}
-use Rattle.flash.proofs.Laws.{length-blank}
 use Rattle.sums.proofs.Laws.{fresh-right}
 use Rattle.session.specs.Session.{boardOf, appEnd, wholeUpload, freshOf, zerosOf}
 use Rattle.loader.specs.Step.{freshStart, startOutcome}
@@ -36,10 +33,3 @@ module _ (flash : List ℕ) (a b part0 part1 : ℕ) where
 
 pub Starts-hold : Starts startOutcome
 Starts-hold = record { taken = taken; refused = refused }
-
--- a start that is taken, and one whose flash is a block short
-pub Starts-met : AllowedStart (blank 2048) 1 2 × (AllowedStart (blank 1024) 1 2 → ⊥)
-Starts-met = (
-  record { some-loader = omega arith; some-application = omega arith; few-blocks = omega arith; sized = length-blank 2048 },
-  λ k. omega (arith, k .sized, length-blank 1024),
-)

@@ -3,6 +3,7 @@ use Prim.Native.Nat.{ℕ, zero, suc}
 use mathlib.Core.Path.{_≡_, refl, sym, ap, _∙_}
 use Rattle.answers.specs.declared.Answer.{Answer}
 use Rattle.answers.specs.Answers.{answerNumber}
+use Rattle.loader.specs.Step.{startOutcome, stepOf}
 use Rattle.demands.specs.Exact.OneOutcome.{OneOutcome}
 
 -- the answer of a number
@@ -21,10 +22,15 @@ back Answer.Unfit = refl
 back Answer.Faulted = refl
 back Answer.ResetAsked = refl
 
+one : {A : Type 0} (said left other : A) → left ≡ said → other ≡ said → left ≡ other
+one said left other e h = e ∙ sym h
+
 pub OneOutcome-holds : OneOutcome
 OneOutcome-holds =
     record {
-      equation = λ said left other e h. e ∙ sym h;
+      equation = one;
+      start = λ flash a b part0 part1 t u. one (startOutcome flash a b part0 part1) t u;
+      step = λ s flash setup d reply l m. one (stepOf s flash setup d reply) l m;
       sent = λ n m before after other bytes e h. (e .count ∙ sym (h .count), e .reply ∙ sym (h .reply));
       word = λ bytes at r q e h. e .0 ∙ sym (h .0);
       answer = λ x y e. sym (back x) ∙ ap ofNumber e ∙ back y;

@@ -2,15 +2,24 @@
 use Prim.Native.Nat.{ℕ, _<_}
 use mathlib.Core.List.{List}
 use mathlib.Core.Path.{_≡_}
+use Rattle.session.specs.declared.Session.{Session}
 use Rattle.numbers.specs.Numbers.{wordAt}
 use Rattle.stream.specs.Stream.{Sent}
 use Rattle.answers.specs.declared.Answer.{Answer}
-use Rattle.answers.specs.Answers.{answerNumber}
+use Rattle.answers.specs.Answers.{answerNumber, Leaves, Told}
+use Rattle.loader.specs.Step.{startOutcome, stepOf}
 
 -- no second outcome fits, on the refused inputs too
 pub record OneOutcome : Type 1 where
   -- the promise of every public call but two is an equation: all that it leaves, as one value, is what one definition says
   pub equation : {A : Type 0} (said left other : A) → left ≡ said → other ≡ said → left ≡ other
+  -- so it is for a start and for a request
+  pub start :
+      (flash : List ℕ) (a b part0 part1 : ℕ) (t u : Told) → t ≡ startOutcome flash a b part0 part1
+      → u ≡ startOutcome flash a b part0 part1 → t ≡ u
+  pub step :
+      (s : Session) (flash setup d reply : List ℕ) (l m : Leaves) → l ≡ stepOf s flash setup d reply
+      → m ≡ stepOf s flash setup d reply → l ≡ m
   -- stream::send promises a count and the reply buffer apart
   pub sent :
       (n m : ℕ) (before after other bytes : List ℕ) → Sent n before after bytes → Sent m before other bytes
