@@ -86,7 +86,7 @@ erase-requires c κs =
     let s = k .before .before .before .before .before in
     let told = m .job2 .given in
     let can = can-wipe _ _ (s .args .flash .now) (s .args .d .now) (s .pre) (told .0 .0) (told .0 .1 .0) (told .1) in
-    can .2
+    record { inside = omega (arith, can .2 .inside); addressed = omega (arith, can .2 .addressed) }
 
 add-t30 : tie.Need-add-t30
 add-t30 c =
