@@ -1,0 +1,63 @@
+// The file formats as a host written in C or Rust calls them, in an archive of their own: a board needs none of them.
+// Refusals are numbers here, since no enum can be handed over to C. `include/mullirim_files.h` declares these calls.
+use suffix::Parts;
+use suffix::Reading;
+use suffix::Writing;
+ghost use mathlib.Core.Path.{_≡_};
+ghost use Rattle.suffix.specs.Suffix.{readOf};
+ghost use Rattle.files.specs.Files.{toldRead, toldWritten, leftBy, suffixWritten};
+
+// A suffix that was read, with the bytes before it; or why it was refused, and zeros.
+#[repr(C)]
+pub struct SuffixRead {
+    pub parts: Parts,
+    pub refused: u16,
+    pub length: usize,
+}
+
+// How many bytes were written; or why none were, and zero.
+#[repr(C)]
+pub struct Written {
+    pub refused: u32,
+    pub count: usize,
+}
+
+#[no_mangle]
+pub extern "C" fn mullirim_suffix_read(file: &[u8]) -> SuffixRead
+    ensures { λ r. ⌜ r ≡ toldRead (readOf (now (file .entry))) ⌝ }
+{
+    let reading = suffix::read(file);
+    match reading {
+        Reading::Suffixed { parts, length } => SuffixRead {
+            parts: parts,
+            refused: 0,
+            length: length,
+        },
+        _ => SuffixRead {
+            parts: Parts {
+                device: 0,
+                product: 0,
+                vendor: 0,
+            },
+            refused: suffix::number(reading),
+            length: 0,
+        },
+    }
+}
+
+#[no_mangle]
+pub extern "C" fn mullirim_suffix_write(file: &[u8], parts: Parts, buffer: &mut [u8]) -> Written
+    ensures { λ r. ⌜ leftBy r (now (buffer .exit)) ≡ suffixWritten (now (file .entry)) parts (now (buffer .entry)) ⌝ }
+{
+    let writing = suffix::write(file, parts, buffer);
+    match writing {
+        Writing::Wrote { count } => Written {
+            refused: 0,
+            count: count,
+        },
+        Writing::NoRoom => Written {
+            refused: 1,
+            count: 0,
+        },
+    }
+}

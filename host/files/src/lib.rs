@@ -1,0 +1,6 @@
+//! The proved readers and writers of file formats for Rust, made safe. What the
+//! C header (`include/mullirim_files.h`) asks of a caller the borrows here
+//! grant by themselves.
+
+mod raw;
+pub mod suffix;
