@@ -5,7 +5,7 @@ use suffix::Reading;
 use suffix::Writing;
 ghost use mathlib.Core.Path.{_≡_};
 ghost use Rattle.suffix.specs.Suffix.{readOf};
-ghost use Rattle.files.specs.Files.{toldRead, toldWritten, leftBy, suffixWritten};
+ghost use Rattle.files.specs.Files.{toldRead, atHost, suffixWritten};
 
 // A suffix that was read, with the bytes before it; or why it was refused, and zeros.
 #[repr(C)]
@@ -47,7 +47,7 @@ pub extern "C" fn mullirim_suffix_read(file: &[u8]) -> SuffixRead
 
 #[no_mangle]
 pub extern "C" fn mullirim_suffix_write(file: &[u8], parts: Parts, buffer: &mut [u8]) -> Written
-    ensures { λ r. ⌜ leftBy r (now (buffer .exit)) ≡ suffixWritten (now (file .entry)) parts (now (buffer .entry)) ⌝ }
+    ensures { λ r. ⌜ atHost r (now (buffer .exit)) ≡ suffixWritten (now (file .entry)) parts (now (buffer .entry)) ⌝ }
 {
     let writing = suffix::write(file, parts, buffer);
     match writing {

@@ -2,8 +2,10 @@
 // bytes, and written behind a file into a lent buffer.
 ghost use Prim.Native.Nat.{_+_, _≤_};
 ghost use mathlib.Core.Path.{_≡_};
+ghost use mathlib.Core.List.{_++_};
 ghost use lib.ListN.{length};
-ghost use Rattle.suffix.specs.Suffix.{signedAt, partsAt, frontOf, readOf, refusalNumber, put, wrote, writeOf};
+ghost use Rattle.suffix.specs.Suffix.{signedAt, sizedAt, versionedAt, summedAt, partsAt, readAt, readOf, refusalNumber};
+ghost use Rattle.suffix.specs.Suffix.{frontOf, sumBytes, replaced, sizeWith, laid, left, writeOf};
 
 // The bytes of a suffix, and those of them that its sum covers.
 const SIZE: usize = 16;
@@ -47,6 +49,28 @@ fn signed(file: &[u8], at: usize) -> bool
         & (file[at + 10] == SIGNATURE[2])
 }
 
+fn sized(file: &[u8], at: usize) -> bool
+    requires { ⌜ at + 16 ≤ length (now file) ⌝ }
+    ensures { λ r. ⌜ r ≡ sizedAt (now (file .entry)) at ⌝ }
+{
+    file[at + 11] == SIZE as u8
+}
+
+fn versioned(file: &[u8], at: usize) -> bool
+    requires { ⌜ at + 16 ≤ length (now file) ⌝ }
+    ensures { λ r. ⌜ r ≡ versionedAt (now (file .entry)) at ⌝ }
+{
+    numbers::word(file, at + 6) == VERSION
+}
+
+fn summed(file: &[u8], at: usize) -> bool
+    requires { ⌜ at + 16 ≤ length (now file) ⌝ }
+    ensures { λ r. ⌜ r ≡ summedAt (now (file .entry)) at ⌝ }
+{
+    let end = at + FRONT;
+    numbers::long(file, end) == crc::sum(&file[0..end])
+}
+
 fn parts_at(file: &[u8], at: usize) -> Parts
     requires { ⌜ at + 16 ≤ length (now file) ⌝ }
     ensures { λ r. ⌜ r ≡ partsAt (now (file .entry)) at ⌝ }
@@ -58,6 +82,28 @@ fn parts_at(file: &[u8], at: usize) -> Parts
     }
 }
 
+fn read_at(file: &[u8], at: usize) -> Reading
+    requires { ⌜ at + 16 ≤ length (now file) ⌝ }
+    ensures { λ r. ⌜ r ≡ readAt (now (file .entry)) at ⌝ }
+{
+    if !signed(file, at) {
+        return Reading::Signature;
+    }
+    if !sized(file, at) {
+        return Reading::Length;
+    }
+    if !versioned(file, at) {
+        return Reading::Version;
+    }
+    if !summed(file, at) {
+        return Reading::Sum;
+    }
+    Reading::Suffixed {
+        parts: parts_at(file, at),
+        length: at,
+    }
+}
+
 // Any bytes are a file with its suffix, or are refused for the first thing that is wrong.
 pub fn read(file: &[u8]) -> Reading
     ensures { λ r. ⌜ r ≡ readOf (now (file .entry)) ⌝ }
@@ -65,23 +111,7 @@ pub fn read(file: &[u8]) -> Reading
     if file.len() < SIZE {
         return Reading::Short;
     }
-    let at = file.len() - SIZE;
-    if !signed(file, at) {
-        return Reading::Signature;
-    }
-    if file[at + 11] != SIZE as u8 {
-        return Reading::Length;
-    }
-    if numbers::word(file, at + 6) != VERSION {
-        return Reading::Version;
-    }
-    if numbers::long(file, at + FRONT) != crc::sum(&file[..at + FRONT]) {
-        return Reading::Sum;
-    }
-    Reading::Suffixed {
-        parts: parts_at(file, at),
-        length: at,
-    }
+    read_at(file, file.len() - SIZE)
 }
 
 // The number of a refusal, and 0 for what is accepted.
@@ -125,16 +155,35 @@ fn front(parts: Parts) -> [u8; 12]
     ]
 }
 
+// The sum goes on over the front, so that the two parts need not stand in one slice.
+fn sum_bytes(file: &[u8], front: &[u8]) -> [u8; 4]
+    ensures { λ r. ⌜ r ≡ sumBytes (now (file .entry) ++ now (front .entry)) ⌝ }
+{
+    let sum = numbers::low4(crc::sum_from(crc::sum(file), front));
+    [sum.0, sum.1, sum.2, sum.3]
+}
+
 fn put(bytes: &[u8], buffer: &mut [u8], at: usize)
     requires { ⌜ at + length (now bytes) ≤ length (now buffer) ⌝ }
-    ensures { λ _. ⌜ now (buffer .exit) ≡ put (now (buffer .entry)) at (now (bytes .entry)) ⌝ }
+    ensures { λ _. ⌜ now (buffer .exit) ≡ replaced (now (buffer .entry)) at (now (bytes .entry)) ⌝ }
 {
     bytes::copy(bytes, &mut buffer[at..]);
 }
 
+fn lay(file: &[u8], parts: Parts, buffer: &mut [u8])
+    requires { ⌜ sizeWith (now file) ≤ length (now buffer) ⌝ }
+    ensures { λ _. ⌜ now (buffer .exit) ≡ laid (now (file .entry)) parts (now (buffer .entry)) ⌝ }
+{
+    let front = front(parts);
+    let sum = sum_bytes(file, &front);
+    put(file, buffer, 0);
+    put(&front, buffer, file.len());
+    put(&sum, buffer, file.len() + FRONT);
+}
+
 // The file and its suffix go to the buffer's front. A file that has a suffix already gets a second one.
 pub fn write(file: &[u8], parts: Parts, buffer: &mut [u8]) -> Writing
-    ensures { λ r. ⌜ wrote r (now (buffer .exit)) ≡ writeOf (now (file .entry)) parts (now (buffer .entry)) ⌝ }
+    ensures { λ r. ⌜ left r (now (buffer .exit)) ≡ writeOf (now (file .entry)) parts (now (buffer .entry)) ⌝ }
 {
     // Subtracted, since a sum could wrap.
     if buffer.len() < SIZE {
@@ -143,12 +192,8 @@ pub fn write(file: &[u8], parts: Parts, buffer: &mut [u8]) -> Writing
     if buffer.len() - SIZE < file.len() {
         return Writing::NoRoom;
     }
-    let at = file.len();
-    put(file, buffer, 0);
-    let front = front(parts);
-    put(&front, buffer, at);
-    let sum = numbers::low4(crc::sum(&buffer[..at + FRONT]));
-    let last = [sum.0, sum.1, sum.2, sum.3];
-    put(&last, buffer, at + FRONT);
-    Writing::Wrote { count: at + SIZE }
+    lay(file, parts, buffer);
+    Writing::Wrote {
+        count: file.len() + SIZE,
+    }
 }

@@ -1,0 +1,2 @@
+-- Laws of what a host hears of files.
+pub mod Laws

@@ -1,0 +1,2 @@
+-- What a host that is written in C or Rust hears of files.
+pub mod Files

@@ -1,0 +1,2 @@
+-- Laws and theorems of the suffix.
+pub mod Laws
