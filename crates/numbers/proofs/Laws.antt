@@ -1,9 +1,9 @@
 -- A number that was written is read back: from its bytes alone, and from the place where they stand among others.
 -- Assumes nothing.
 use Prim.Native.Nat.{ℕ, _+_, _*_, _/_, _%_, _^_, _<_}
-use mathlib.Core.List.{List, [], _++_, append-assoc}
+use mathlib.Core.List.{List, [], _∷_, _++_, append-assoc}
 use mathlib.Core.Path.{_≡_, sym, ap, ap₂, _∙_}
-use native.Mathlib.Nat.{div-div-eq-div-mul, mod-add-div', mod-eq-of-lt}
+use native.Mathlib.Nat.{zero-add, add-mul-div-right, add-mul-mod-self-right, div-div-eq-div-mul, div-eq-of-lt, mod-add-div', mod-eq-of-lt}
 use native.Mathlib.Omega.{arith}
 use lib.ListN.{length, getD}
 use lib.Seq.{getD-append-add}
@@ -31,15 +31,43 @@ four-bytes n h =
     (rw top at (mod-add-div' (n / 65536) 256))
     (mod-eq-of-lt (omega arith))
 
+-- a low byte and the rest come apart again
+module _ (x q : ℕ) (h : x < 256) where
+  low-of : (x + q * 256) % 256 ≡ x
+  low-of = add-mul-mod-self-right x q 256 ∙ mod-eq-of-lt h
+
+  high-of : (x + q * 256) / 256 ≡ q
+  high-of = add-mul-div-right x q (omega arith) ∙ ap (λ (d : ℕ). d + q) (div-eq-of-lt h) ∙ zero-add q
+
+-- so bytes are those of the number that they make
+pub of-two-bytes : (x y : ℕ) → x < 256 → y < 256 → bytes2 (x + y * 256) ≡ x ∷ y ∷ []
+of-two-bytes x y hx hy =
+    ap₂ (λ (a b : ℕ). a ∷ b ∷ []) (low-of x y hx) (ap (λ (n : ℕ). n % 256) (high-of x y hx) ∙ mod-eq-of-lt hy)
+
+pub of-four-bytes :
+    (x y z w : ℕ) → x < 256 → y < 256 → z < 256 → w < 256
+    → bytes4 (x + y * 256 + (z + w * 256) * 65536) ≡ x ∷ y ∷ z ∷ w ∷ []
+of-four-bytes x y z w hx hy hz hw =
+    let b : ℕ = z + w * 256 in
+    let a : ℕ = y + b * 256 in
+    let n : ℕ = x + y * 256 + b * 65536 in
+    let joined : n ≡ x + a * 256 = omega arith in
+    let one : n / 256 ≡ a = ap (λ (k : ℕ). k / 256) joined ∙ high-of x a hx in
+    let two : n / 65536 ≡ b = sym (div-div-eq-div-mul n 256 256) ∙ ap (λ (k : ℕ). k / 256) one ∙ high-of y b hy in
+    let three : n / 16777216 ≡ w = sym (div-div-eq-div-mul n 65536 256) ∙ ap (λ (k : ℕ). k / 256) two ∙ high-of z w hz in
+    ap₂ _++_
+    (ap₂ (λ (k l : ℕ). k ∷ l ∷ []) (ap (λ (k : ℕ). k % 256) joined ∙ low-of x a hx) (ap (λ (k : ℕ). k % 256) one ∙ low-of y b hy))
+    (ap₂ (λ (k l : ℕ). k ∷ l ∷ []) (ap (λ (k : ℕ). k % 256) two ∙ low-of z w hz) (ap (λ (k : ℕ). k % 256) three ∙ mod-eq-of-lt hw))
+
 -- what stands at a place where a second list has begun stands in that list
 module _ (before after : List ℕ) where
   byte-on : (at k : ℕ) → at ≡ length before + k → getD (before ++ after) at 0 ≡ getD after k 0
   byte-on at k e = ap (λ (i : ℕ). getD (before ++ after) i 0) e ∙ getD-append-add before after k 0
 
-  word-on : (at k : ℕ) → at ≡ length before + k → wordAt (before ++ after) at ≡ wordAt after k
+  pub word-on : (at k : ℕ) → at ≡ length before + k → wordAt (before ++ after) at ≡ wordAt after k
   word-on at k e = ap₂ (λ (x y : ℕ). x + y * 256) (byte-on at k e) (byte-on (at + 1) (k + 1) (omega arith))
 
-  long-on : (at k : ℕ) → at ≡ length before + k → longAt (before ++ after) at ≡ longAt after k
+  pub long-on : (at k : ℕ) → at ≡ length before + k → longAt (before ++ after) at ≡ longAt after k
   long-on at k e = ap₂ (λ (x y : ℕ). x + y * 65536) (word-on at k e) (word-on (at + 2) (k + 2) (omega arith))
 
 -- what was written is read back, whatever stands around it

@@ -1,2 +1,4 @@
 -- Laws and theorems of the suffix.
 pub mod Laws
+pub mod Ends
+pub mod Theorems

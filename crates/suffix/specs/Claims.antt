@@ -90,7 +90,7 @@ abbrev pub ReadWritten : (List ℕ → Reading) → (List ℕ → Parts → List
 ReadWritten read write =
     (file : List ℕ) (p : Parts) (buffer : List ℕ) (n : ℕ) → Bytes file → Fits p → write file p buffer .result ≡ Wrote n
     → (read (take n (write file p buffer .buffer)) ≡ Suffixed p (length file))
-      × (take (length file) (write file p buffer .buffer) ≡ file)
+    × (take (length file) (write file p buffer .buffer) ≡ file)
 
 -- writing what was read gives the same bytes
 abbrev pub WriteRead : (List ℕ → Reading) → (List ℕ → Parts → List ℕ → Left) → Type 0

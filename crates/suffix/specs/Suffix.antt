@@ -1,6 +1,6 @@
 -- A file with its suffix; what reading any bytes comes to, and what writing leaves.
 use Prim.Native.Nat.{ℕ, _+_, _-_}
-use mathlib.Core.Bool.{Bool, cond, not, _&&_}
+use mathlib.Core.Bool.{Bool, true, cond, not, _&&_}
 use mathlib.Core.List.{List, [], _∷_, _++_}
 use lib.Dec.{eqb, ltb}
 use lib.ListN.{length, getD, take, drop}
@@ -54,14 +54,18 @@ versionedAt bytes at = eqb (wordAt bytes (at + 6)) dfuVersion
 abbrev pub summedAt : List ℕ → ℕ → Bool
 summedAt bytes at = eqb (longAt bytes (at + frontSize)) (crcOf (take (at + frontSize) bytes))
 
--- bytes that are enough for a suffix, which would stand at a place: the first thing that is wrong, or the suffix
+-- the first test that fails says why; where none does, there is a suffix
+abbrev pub judged : Bool → Bool → Bool → Bool → Reading → Reading
+judged signed sized versioned summed found =
+    cond (not signed) Signature (cond (not sized) Length (cond (not versioned) Version (cond (not summed) Sum found)))
+
+-- bytes that are enough for a suffix, which would stand at a place; and those of them whose signature and length are right
 abbrev pub readAt : List ℕ → ℕ → Reading
 readAt bytes at =
-    cond (not (signedAt bytes at)) Signature
-    (cond (not (sizedAt bytes at)) Length
-    (cond (not (versionedAt bytes at)) Version
-    (cond (not (summedAt bytes at)) Sum
-    (Suffixed (partsAt bytes at) at))))
+    judged (signedAt bytes at) (sizedAt bytes at) (versionedAt bytes at) (summedAt bytes at) (Suffixed (partsAt bytes at) at)
+
+abbrev pub vouchedAt : List ℕ → ℕ → Reading
+vouchedAt bytes at = judged true true (versionedAt bytes at) (summedAt bytes at) (Suffixed (partsAt bytes at) at)
 
 -- any bytes
 unfoldable pub readOf : List ℕ → Reading

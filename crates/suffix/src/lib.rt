@@ -4,11 +4,12 @@ ghost use Prim.Native.Nat.{_+_, _≤_};
 ghost use mathlib.Core.Path.{_≡_};
 ghost use mathlib.Core.List.{_++_};
 ghost use lib.ListN.{length};
-ghost use Rattle.suffix.specs.Suffix.{signedAt, sizedAt, versionedAt, summedAt, partsAt, readAt, readOf, refusalNumber};
-ghost use Rattle.suffix.specs.Suffix.{frontOf, sumBytes, replaced, sizeWith, laid, left, writeOf};
+ghost use Rattle.suffix.specs.Suffix.{signedAt, sizedAt, versionedAt, summedAt, partsAt, vouchedAt, readAt, readOf};
+ghost use Rattle.suffix.specs.Suffix.{refusalNumber, frontOf, sumBytes, replaced, sizeWith, laid, left, writeOf};
 
 // The bytes of a suffix, and those of them that its sum covers.
 const SIZE: usize = 16;
+
 const FRONT: usize = 12;
 // bcdDFU: the standard's version, 1.0.
 const VERSION: u32 = 0x0100;
@@ -82,16 +83,11 @@ fn parts_at(file: &[u8], at: usize) -> Parts
     }
 }
 
-fn read_at(file: &[u8], at: usize) -> Reading
+// What a suffix of the right form comes to: one of this version whose sum is right, or a refusal.
+fn vouched_at(file: &[u8], at: usize) -> Reading
     requires { ⌜ at + 16 ≤ length (now file) ⌝ }
-    ensures { λ r. ⌜ r ≡ readAt (now (file .entry)) at ⌝ }
+    ensures { λ r. ⌜ r ≡ vouchedAt (now (file .entry)) at ⌝ }
 {
-    if !signed(file, at) {
-        return Reading::Signature;
-    }
-    if !sized(file, at) {
-        return Reading::Length;
-    }
     if !versioned(file, at) {
         return Reading::Version;
     }
@@ -102,6 +98,19 @@ fn read_at(file: &[u8], at: usize) -> Reading
         parts: parts_at(file, at),
         length: at,
     }
+}
+
+fn read_at(file: &[u8], at: usize) -> Reading
+    requires { ⌜ at + 16 ≤ length (now file) ⌝ }
+    ensures { λ r. ⌜ r ≡ readAt (now (file .entry)) at ⌝ }
+{
+    if !signed(file, at) {
+        return Reading::Signature;
+    }
+    if !sized(file, at) {
+        return Reading::Length;
+    }
+    vouched_at(file, at)
 }
 
 // Any bytes are a file with its suffix, or are refused for the first thing that is wrong.

@@ -1,32 +1,24 @@
+-- What was read is heard: with its parts, or by its number. Assumes nothing.
 use mathlib.Core.Path.{sym, ap, _∙_}
-use Rattle.files.specs.Files.{toldRead}
-use Rattle.files.proofs.Laws.{heard}
 use borrow.Author.Needs.{needs}
+use Rattle.files.proofs.Laws.{heard}
+use Rattle.files.specs.Files.{toldRead}
 use Rattle.files.proofs.mullirim_suffix_read.Statement.{statement}
 use Rattle.files.proofs.mullirim_suffix_read.Tie as tie
-use Rattle.files.proofs.mullirim_suffix_read.Reads as reads
-use Rattle.files.proofs.mullirim_suffix_read.Lts as lts
-use Rattle.suffix.proofs.number.Reads as number-reads
-use Rattle.suffix.proofs.read.Reads as read-reads
 
--- src/lib.rt:29:9
 read-requires : tie.Need-read-requires
 read-requires c κs = search needs
 
--- src/lib.rt:31:29
 enum-known-reading : tie.Need-enum-known-reading
 enum-known-reading c = search needs
 
--- src/lib.rt:42:22
 number-requires : tie.Need-number-requires
 number-requires c κs = search needs
 
--- src/lib.rt:25:1
 returns : tie.Need-returns
 unfolding toldRead
 returns c = ap toldRead (sym (c .before .reading .given .1) ∙ c .before .before .before .read .ensures)
 
--- src/lib.rt:25:1
 returns-2 : tie.Need-returns-2
 returns-2 c =
     rw (c .number .ensures) (heard _ (c .before .match .keys2)) ∙ ap toldRead (c .before .before .read .ensures)

@@ -1,43 +1,32 @@
+-- The three numbers are the words at their places. Assumes nothing.
 use borrow.Author.Needs.{needs}
 use Rattle.suffix.proofs.parts_at.Statement.{statement}
 use Rattle.suffix.proofs.parts_at.Tie as tie
-use Rattle.suffix.proofs.parts_at.Reads as reads
-use Rattle.suffix.proofs.parts_at.Lts as lts
-use Rattle.numbers.proofs.word.Reads as word-reads
 
--- src/lib.rt:55:17
 word-requires : tie.Need-word-requires
 word-requires c κs = search needs
 
--- src/lib.rt:55:17
 cast-t4 : tie.Need-cast-t4
 cast-t4 c = search needs
 
--- src/lib.rt:56:38
 add-word : tie.Need-add-word
 add-word c = search needs
 
--- src/lib.rt:56:18
 word-requires-2 : tie.Need-word-requires-2
 word-requires-2 c κs = search needs
 
--- src/lib.rt:56:18
 cast-t7 : tie.Need-cast-t7
 cast-t7 c = search needs
 
--- src/lib.rt:57:37
 add-word-2 : tie.Need-add-word-2
 add-word-2 c = search needs
 
--- src/lib.rt:57:17
 word-requires-3 : tie.Need-word-requires-3
 word-requires-3 c κs = search needs
 
--- src/lib.rt:57:17
 cast-t10 : tie.Need-cast-t10
 cast-t10 c = search needs
 
--- src/lib.rt:50:1
 returns : tie.Need-returns
 returns c = rw (c .before .before .word .ensures .0, c .before .word2 .ensures .0, c .word3 .ensures .0)
 

@@ -1,36 +1,27 @@
-use Rattle.suffix.proofs.Laws.{no-room, room}
+-- Two refusals for want of room; else what was laid. Assumes nothing.
 use borrow.Author.Needs.{needs}
+use Rattle.suffix.proofs.Laws.{no-room, room}
 use Rattle.suffix.proofs.write.Statement.{statement}
 use Rattle.suffix.proofs.write.Tie as tie
-use Rattle.suffix.proofs.write.Reads as reads
-use Rattle.suffix.proofs.write.Lts as lts
-use Rattle.suffix.proofs.lay.Reads as lay-reads
 
--- src/lib.rt:162:9
 returns : tie.Need-returns
 returns c = no-room _ _ _ (search needs)
 
--- src/lib.rt:164:8
 sub-if2 : tie.Need-sub-if2
 sub-if2 c = search needs
 
--- src/lib.rt:165:9
 returns-2 : tie.Need-returns-2
 returns-2 c = no-room _ _ _ (search needs)
 
--- src/lib.rt:167:5
 lay-requires : tie.Need-lay-requires
 lay-requires c κs = search needs
 
--- src/lib.rt:169:16
 add-t6 : tie.Need-add-t6
 add-t6 c = search needs
 
--- src/lib.rt:157:1
 same-length : tie.Need-same-length
 same-length c = search needs
 
--- src/lib.rt:157:1
 returns-3 : tie.Need-returns-3
 returns-3 c = room _ _ _ _ (search needs) (c .before .before .lay .ensures)
 
