@@ -81,12 +81,14 @@ mod tests {
         vendor: 0x1CBE,
     };
 
-    /// The suffix of 123456789 with these parts, and the one that both get
-    /// together. Here and below, the sums are Python's zlib.crc32, complemented.
+    /// The suffix of 123456789 with these parts, as `dfu-suffix -a` (dfu-util
+    /// 0.11) writes it; Python's zlib.crc32, complemented, gives the same sum.
     const FIRST: [u8; SIZE] = [
         0x03, 0x02, 0xB2, 0xA1, 0xBE, 0x1C, 0x00, 0x01, 0x55, 0x46, 0x44, 0x10, 0xE5, 0xAA, 0x1E,
         0x0A,
     ];
+    /// The one that both get together. `dfu-suffix` adds no second one, so the
+    /// sum is Python's alone.
     const SECOND: [u8; SIZE] = [
         0x03, 0x02, 0xB2, 0xA1, 0xBE, 0x1C, 0x00, 0x01, 0x55, 0x46, 0x44, 0x10, 0x82, 0x29, 0x2A,
         0x09,
@@ -102,6 +104,7 @@ mod tests {
         assert_eq!(read(&[&file()[..], &SECOND].concat()), Ok((PARTS, 25)));
     }
 
+    /// The bytes are those of `dfu-suffix -a` and of Python again.
     #[test]
     fn an_empty_image_is_read() {
         let suffix = [
