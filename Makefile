@@ -2,16 +2,17 @@
 CARGO = cargo --quiet
 HOST = $(CARGO) run --release --offline --manifest-path host/Cargo.toml --bin
 BOARD = $(CARGO) run --release --offline --manifest-path host/Cargo.toml -p mullirim-board --bin
+FILES = $(CARGO) run --release --offline --manifest-path host/Cargo.toml -p mullirim-files --bin
 SOURCES := crates.txt $(shell find crates -name '*.rt' -o -name '*.antt')
 
 CHECKED = -std=c11 -g -O1 -Wall -Wextra -DCHECKED -fsanitize=address,undefined -fno-sanitize-recover=all -Iinclude
 
-.PHONY: test quick demo tool soak bench expected host layout library example differ faults replay checked said quoted stored names
-.PHONY: stock setup
+.PHONY: test quick demo tool soak bench expected host layout library example differ suffixes faults replay checked said quoted stored
+.PHONY: names stock setup
 
 # The gate: the second loader's own tests, the stored outputs against it, the calls for C and Rust, then every proof, every edit that
 # must fail and every program, from nothing. The last line is the prover's own count.
-test: names host expected layout example differ faults replay checked quoted stock
+test: names host expected layout example differ suffixes faults replay checked quoted stock
 	rt ci
 
 # What a change needs while one is at it: the crates that changed since main was left (on main: since its last commit) with what they
@@ -37,7 +38,7 @@ expected:
 	$(HOST) script -- desk | cmp - crates/desk/stdin
 	$(HOST) play < crates/desk/stdin | cmp - crates/desk/stdout
 
-# The C header's structs lie as those in Rust; compiling is the test.
+# The C headers' structs lie as those in Rust; compiling is the test.
 layout:
 	@mkdir -p build
 	$(HOST) layout > build/layout.inc
@@ -64,11 +65,16 @@ differ: build/libboard.a
 soak: build/libboard.a
 	$(BOARD) differ -- --soak --seed $$(date +%s)
 
+# The proved reader and writer of the suffix beside the second ones, file by file.
+suffixes: build/libboard.a
+	$(FILES) suffixes > build/suffixes.said || { cat build/suffixes.said; false; }
+	@cat build/suffixes.said
+
 # The proved calls beside plain Rust and zlib. Figures are for docs/PERFORMANCE.md; nothing tests them.
 bench: build/libboard.a
 	@$(BOARD) bench
 
-# The comparison finds what it is there to find.
+# The comparisons find what they are there to find.
 faults: build/libboard.a
 	tools/faults > build/faults.said
 	@cat build/faults.said
@@ -116,10 +122,10 @@ demo: tool
 	@build/mullirim visit $(ARGS)
 
 # What the visit and the comparisons say.
-said: tool differ faults replay checked
+said: tool differ suffixes faults replay checked
 	build/mullirim visit > build/visit.said
 	grep . build/visit.said > build/demo.said
-	cat build/differ.said build/faults.said build/replay.said build/checked.said > build/test.said
+	cat build/differ.said build/suffixes.said build/faults.said build/replay.said build/checked.said > build/test.said
 
 # docs/TRANSCRIPTS.md quotes it as it is (but for empty lines).
 quoted: said

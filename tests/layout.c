@@ -1,9 +1,10 @@
 /*
- * The header's structs lie in memory as the Rust side's do (host/src/layout.rs), field by field and none left out; the library's own lie so
- * too, or the comparison and the replay would differ. Compiling this file is the test; it has nothing to run. The numbers come from
+ * The headers' structs lie in memory as the Rust side's do (host/src/layout.rs), field by field and none left out; the libraries' own lie
+ * so too, or the comparisons and the replay would differ. Compiling this file is the test; it has nothing to run. The numbers come from
  * `make layout`, in build/layout.inc.
  */
 #include "mullirim.h"
+#include "mullirim_files.h"
 
 #define NUMBER(name, number) _Static_assert((name) == (number), #name " is not " #number)
 #define BYTES(type, size) _Static_assert(sizeof(struct type) == (size), #type " has not " #size " bytes")

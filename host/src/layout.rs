@@ -1,7 +1,7 @@
-//! The structs of `include/mullirim.h`, the one place in Rust that says how they
-//! lie. The wrapper lends them, the recorder writes them, and `make layout`
-//! holds the header to the table that each carries: a field added here is in
-//! all three.
+//! The structs of `include/mullirim.h` and `include/mullirim_files.h`, the one
+//! place in Rust that says how they lie. The wrappers lend them, the recorder
+//! writes them, and `make layout` holds the headers to the table that each
+//! carries: a field added here is in all three.
 
 use crate::second::{self, MOST_BLOCKS};
 use std::mem::{offset_of, size_of};
@@ -32,9 +32,21 @@ impl Laid for u8 {
     }
 }
 
+impl Laid for u16 {
+    fn put(&self, to: &mut [u8]) {
+        to[..2].copy_from_slice(&self.to_le_bytes());
+    }
+}
+
 impl Laid for u32 {
     fn put(&self, to: &mut [u8]) {
         to[..4].copy_from_slice(&self.to_le_bytes());
+    }
+}
+
+impl Laid for usize {
+    fn put(&self, to: &mut [u8]) {
+        to[..size_of::<usize>()].copy_from_slice(&self.to_le_bytes());
     }
 }
 
@@ -150,7 +162,35 @@ laid! {
     }
 }
 
-pub const STRUCTS: [Struct; 8] = [
+laid! {
+    /// What a suffix says of its file: bcdDevice, idProduct and idVendor.
+    pub struct Parts {
+        pub device: u16,
+        pub product: u16,
+        pub vendor: u16,
+    }
+}
+
+laid! {
+    /// What reading a suffix hands back: where it was refused, zeros and the
+    /// refusal's number.
+    pub struct SuffixRead {
+        pub parts: Parts,
+        pub refused: u16,
+        pub length: usize,
+    }
+}
+
+laid! {
+    /// What writing a file hands back: a refusal's number or zero, and how many
+    /// bytes were written.
+    pub struct Written {
+        pub refused: u32,
+        pub count: usize,
+    }
+}
+
+pub const STRUCTS: [Struct; 11] = [
     Board::TABLE,
     Phase::TABLE,
     Download::TABLE,
@@ -159,6 +199,9 @@ pub const STRUCTS: [Struct; 8] = [
     Session::TABLE,
     Started::TABLE,
     Answer::TABLE,
+    Parts::TABLE,
+    SuffixRead::TABLE,
+    Written::TABLE,
 ];
 
 impl Session {

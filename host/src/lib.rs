@@ -1,4 +1,5 @@
-//! The second loader, and the calls to try both loaders with.
+//! The second loader, and the calls to try both loaders with; the second reader
+//! and writer of a file's suffix; and the structs of the C headers.
 
 pub mod dice;
 pub mod histories;
@@ -6,4 +7,5 @@ pub mod layout;
 pub mod requests;
 pub mod second;
 pub mod sessions;
+pub mod suffix;
 pub mod tape;

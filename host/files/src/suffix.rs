@@ -1,17 +1,12 @@
 //! The suffix of a DFU file.
 
 use crate::raw;
+use mullirim_host::layout::{SuffixRead, Written};
+
+pub use mullirim_host::layout::Parts;
 
 /// The bytes of a suffix.
 pub const SIZE: usize = 16;
-
-/// What a suffix says of its file: bcdDevice, idProduct and idVendor.
-#[derive(Clone, Copy, Debug, PartialEq, Eq)]
-pub struct Parts {
-    pub device: u16,
-    pub product: u16,
-    pub vendor: u16,
-}
 
 /// Why a file is refused: the first of these that holds.
 #[derive(Clone, Copy, Debug, PartialEq, Eq)]
@@ -39,23 +34,9 @@ impl Refusal {
 
 /// The parts, and how many bytes stand before the suffix.
 pub fn read(file: &[u8]) -> Result<(Parts, usize), Refusal> {
-    // SAFETY: the slice lends its bytes for the call, which only reads them; a
-    // pointer from a slice is not null, also where it is empty.
-    let read = unsafe { raw::mullirim_suffix_read(file.as_ptr(), file.len()) };
-    let raw::Parts {
-        device,
-        product,
-        vendor,
-    } = read.parts;
+    let read = read_as_c(file);
     match read.refused {
-        0 => Ok((
-            Parts {
-                device,
-                product,
-                vendor,
-            },
-            read.length,
-        )),
+        0 => Ok((read.parts, read.length)),
         number => Err(Refusal::of(number)),
     }
 }
@@ -63,19 +44,22 @@ pub fn read(file: &[u8]) -> Result<(Parts, usize), Refusal> {
 /// Writes the file and its suffix to the buffer's front and says how many bytes
 /// that are; or nothing, where there is too little room.
 pub fn write(file: &[u8], parts: Parts, buffer: &mut [u8]) -> Option<usize> {
-    let Parts {
-        device,
-        product,
-        vendor,
-    } = parts;
-    let parts = raw::Parts {
-        device,
-        product,
-        vendor,
-    };
+    let written = write_as_c(file, parts, buffer);
+    (written.refused == 0).then_some(written.count)
+}
+
+/// All that the call for C hands back, also on a refusal.
+pub fn read_as_c(file: &[u8]) -> SuffixRead {
+    // SAFETY: the slice lends its bytes for the call, which only reads them; a
+    // pointer from a slice is not null, also where it is empty.
+    unsafe { raw::mullirim_suffix_read(file.as_ptr(), file.len()) }
+}
+
+/// All that the call for C hands back, also on a refusal.
+pub fn write_as_c(file: &[u8], parts: Parts, buffer: &mut [u8]) -> Written {
     // SAFETY: each pointer comes with its slice's own length, and the buffer is
     // borrowed for this call alone.
-    let written = unsafe {
+    unsafe {
         raw::mullirim_suffix_write(
             file.as_ptr(),
             file.len(),
@@ -83,6 +67,5 @@ pub fn write(file: &[u8], parts: Parts, buffer: &mut [u8]) -> Option<usize> {
             buffer.as_mut_ptr(),
             buffer.len(),
         )
-    };
-    (written.refused == 0).then_some(written.count)
+    }
 }

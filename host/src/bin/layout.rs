@@ -1,8 +1,9 @@
-//! Prints the structs of `layout.rs` and the numbers of the paper as C's test
+//! Prints the structs of `layout.rs` and the numbers of the papers as C's test
 //! reads them (`tests/layout.c`), a line for each.
 
 use mullirim_host::layout::{Struct, STRUCTS};
 use mullirim_host::second::{answer, BLOCK, MOST_BLOCKS, TRANSFER};
+use mullirim_host::suffix::{self, refusal};
 
 fn main() {
     for (name, number) in [
@@ -14,6 +15,13 @@ fn main() {
         ("MULLIRIM_UNFIT", answer::UNFIT.into()),
         ("MULLIRIM_FAULTED", answer::FAULTED.into()),
         ("MULLIRIM_RESET_ASKED", answer::RESET_ASKED.into()),
+        ("MULLIRIM_SUFFIX_SIZE", suffix::SIZE),
+        ("MULLIRIM_SUFFIX_ACCEPTED", 0),
+        ("MULLIRIM_SUFFIX_SHORT", refusal::SHORT.into()),
+        ("MULLIRIM_SUFFIX_SIGNATURE", refusal::SIGNATURE.into()),
+        ("MULLIRIM_SUFFIX_LENGTH", refusal::LENGTH.into()),
+        ("MULLIRIM_SUFFIX_VERSION", refusal::VERSION.into()),
+        ("MULLIRIM_SUFFIX_SUM", refusal::SUM.into()),
     ] {
         println!("NUMBER({name}, {number});");
     }
@@ -21,7 +29,7 @@ fn main() {
 }
 
 fn print(table: &Struct) {
-    let name = format!("mullirim_{}", table.name.to_lowercase());
+    let name = in_c(table.name);
     println!("BYTES({name}, {});", table.size);
     for field in table.fields {
         println!(
@@ -30,6 +38,18 @@ fn print(table: &Struct) {
         );
     }
     println!("ALL({name}, {});", zeros(table));
+}
+
+/// `SuffixRead` is `mullirim_suffix_read` in C.
+fn in_c(name: &str) -> String {
+    let mut in_c = "mullirim".to_string();
+    for letter in name.chars() {
+        if letter.is_ascii_uppercase() {
+            in_c.push('_');
+        }
+        in_c.push(letter.to_ascii_lowercase());
+    }
+    in_c
 }
 
 /// As many zeros as there are fields, with braces around what has its own.

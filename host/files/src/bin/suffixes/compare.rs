@@ -1,0 +1,114 @@
+//! The proved calls and the second ones side by side over one case.
+
+use crate::cases::Case;
+use crate::seen::Seen;
+use crate::tally::Tally;
+use mullirim_files::suffix::{self, Parts, Refusal, SIZE};
+use mullirim_host::layout::{SuffixRead, Written};
+use mullirim_host::suffix as second;
+use std::fmt::Debug;
+
+/// What the proved calls left and what is awaited.
+type Same = Result<(), String>;
+
+pub fn both(case: &Case, tally: &mut Tally) -> Same {
+    let agreed = read(case, tally).and_then(|read| Ok((read, write(case, tally)?)));
+    let (read, written) =
+        agreed.map_err(|difference| format!("{difference}\n{}", described(case)))?;
+    tally.agreed(&Seen::new(case, read, written));
+    Ok(())
+}
+
+fn read(case: &Case, tally: &mut Tally) -> Result<SuffixRead, String> {
+    let awaited = second::read(&case.file);
+    let as_c = match awaited {
+        Ok((parts, length)) => SuffixRead {
+            parts,
+            refused: 0,
+            length,
+        },
+        Err(refused) => SuffixRead {
+            parts: NO_PARTS,
+            refused,
+            length: 0,
+        },
+    };
+    tally.calls += 2;
+    same("what reading gives", suffix::read_as_c(&case.file), as_c)?;
+    let read = suffix::read(&case.file).map_err(Refusal::number);
+    same("what the wrapper reads", read, awaited)?;
+    if let Ok((parts, length)) = read {
+        same_again(case, parts, length, tally)?;
+    }
+    Ok(as_c)
+}
+
+const NO_PARTS: Parts = Parts {
+    device: 0,
+    product: 0,
+    vendor: 0,
+};
+
+/// Writing what was read gives the same bytes.
+fn same_again(case: &Case, parts: Parts, length: usize, tally: &mut Tally) -> Same {
+    let mut again = vec![0xEE; case.file.len()];
+    let count = suffix::write(&case.file[..length], parts, &mut again);
+    tally.calls += 1;
+    same("writing what was read", count, Some(case.file.len()))?;
+    same_bytes("file written again", &again, &case.file)
+}
+
+fn write(case: &Case, tally: &mut Tally) -> Result<Written, String> {
+    let Case { file, parts, .. } = case;
+    let mut frame = case.frame.clone();
+    let awaited = second::write(file, *parts, &mut frame[case.lent()]);
+    let as_c = Written {
+        refused: u32::from(awaited.is_none()),
+        count: awaited.unwrap_or(0),
+    };
+    let mut left = case.frame.clone();
+    let written = suffix::write_as_c(file, *parts, &mut left[case.lent()]);
+    same("what writing gives", written, as_c)?;
+    same_bytes("buffer and its guards", &left, &frame)?;
+    let mut left = case.frame.clone();
+    let count = suffix::write(file, *parts, &mut left[case.lent()]);
+    same("what the wrapper writes", count, awaited)?;
+    same_bytes("buffer by the wrapper", &left, &frame)?;
+    tally.calls += 2;
+    if let Some(count) = count {
+        read_again(case, &left[case.lent()][..count], tally)?;
+    }
+    Ok(as_c)
+}
+
+/// Reading what was written gives the parts back.
+fn read_again(case: &Case, written: &[u8], tally: &mut Tally) -> Same {
+    tally.calls += 1;
+    let awaited = Ok((case.parts, written.len() - SIZE));
+    same("reading what was written", suffix::read(written), awaited)
+}
+
+fn same<T: PartialEq + Debug>(what: &str, left: T, awaited: T) -> Same {
+    match left == awaited {
+        true => Ok(()),
+        false => Err(format!("{what} is {left:?}, awaited {awaited:?}")),
+    }
+}
+
+fn same_bytes(what: &str, left: &[u8], awaited: &[u8]) -> Same {
+    let place = (0..left.len()).find(|place| left[*place] != awaited[*place]);
+    place.map_or(Ok(()), |place| {
+        let what = format!("byte {place} of the {what}");
+        same(&what, left[place], awaited[place])
+    })
+}
+
+fn described(case: &Case) -> String {
+    let last = &case.file[case.file.len().saturating_sub(SIZE)..];
+    format!(
+        "{} bytes of file up to {last:02X?}, {:04X?}, {} bytes of buffer",
+        case.file.len(),
+        case.parts,
+        case.lent().len()
+    )
+}
