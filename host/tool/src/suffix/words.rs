@@ -292,35 +292,19 @@ mod tests {
         for (word, value) in taken {
             assert_eq!(numeral(word), Some(value), "{word}");
         }
-        for word in [
-            "65536",
-            "99999999999999999999",
-            "0x10000",
-            "-1",
-            "+1",
-            "0x+1",
-            "0x-1",
-            "1209h",
-            "abc",
-            "0x",
-            "x1",
-            "0X12",
-            "0xG",
-            "1 ",
-            " 1",
-            "1_0",
-            "1.5",
-            "0b1",
-            "0x0x1",
-            "١",
-        ] {
-            for flag in ["--device", "--product", "--vendor"] {
-                let why = format!(
-                    "{flag} takes a number from 0 to 65535, decimal or in hex after 0x, \
-                     and '{word}' is none"
-                );
-                refused(&["add", "f", flag, word], &why);
-            }
+    }
+
+    #[test]
+    fn nothing_else_is_a_number() {
+        let words = "65536 99999999999999999999 0x10000 -1 +1 0x+1 0x-1 1209h abc 0x x1 0X12 0xG \
+                     1_0 1.5 0b1 0x0x1 ١";
+        for word in words.split(' ').chain(["1 ", " 1", "\t"]) {
+            assert_eq!(numeral(word), None, "{word}");
+        }
+        for flag in ["--device", "--product", "--vendor"] {
+            let why = "takes a number from 0 to 65535, decimal or in hex after 0x, and";
+            let why = format!("{flag} {why} '\\u{{1b}}' is none");
+            refused(&["add", "f", flag, "\x1b"], &why);
         }
     }
 

@@ -278,30 +278,38 @@ fn another_file_is_written_over_whole() {
     assert_eq!(folder.names(), ["f", "link", "old"]);
 }
 
+/// Words that end with 2, and write nothing.
+fn wrong_use(folder: &Folder, words: &[&str], message: &str) {
+    let words = [&["suffix"], words].concat();
+    folder.refused(&words, 2, &format!("mullirim suffix: {message} {HOW}"));
+    assert_eq!(folder.names(), ["f"]);
+}
+
 #[test]
 fn wrong_use_ends_with_2() {
     let folder = Folder::new("suffix-use");
     folder.put("f", suffixed(b"firmware", [1, 2, 3]));
-    let refused = |words: &[&str], message: &str| {
-        let words = [&["suffix"], words].concat();
-        folder.refused(&words, 2, &format!("mullirim suffix: {message} {HOW}"));
-    };
+    let refused = |words: &[&str], message: &str| wrong_use(&folder, words, message);
     refused(&[], "say what to do: show, check or add");
     refused(&["f"], "a suffix can be shown, checked or added, not 'f'");
-    refused(
-        &["\x1b[2J"],
-        "a suffix can be shown, checked or added, not '\\u{1b}[2J'",
-    );
+    let escaped = "a suffix can be shown, checked or added, not '\\u{1b}[2J'";
+    refused(&["\x1b[2J"], escaped);
     refused(&["show"], "show needs the name of a file");
     refused(&["check", ""], "the name of a file is empty");
-    refused(
-        &["check", "f", "f"],
-        "check takes one file, and 2 are given",
-    );
+    let two = "check takes one file, and 2 are given";
+    refused(&["check", "f", "f"], two);
     refused(&["show", "f", "-j"], "show has no flag that is called -j");
     let none = "check has no flag that is called --json";
     refused(&["check", "f", "--json"], none);
-    refused(&["show", "f", "--json", "--json"], "--json is given twice");
+    let twice = ["show", "f", "--json", "--json"];
+    refused(&twice, "--json is given twice");
+    refused(&["add", "f", "--device"], "--device needs a number");
+}
+
+#[test]
+fn an_addition_without_all_its_numbers_is_wrong_use() {
+    let folder = Folder::new("suffix-numbers");
+    folder.put("f", b"firmware");
     for (left_out, value) in [
         ("--device", "N"),
         ("--product", "N"),
@@ -311,7 +319,8 @@ fn wrong_use_ends_with_2() {
         let words = adding("f", ["1", "2", "3"], "out");
         let place = words.iter().position(|word| *word == left_out).unwrap();
         let words = [&words[1..place], &words[place + 2..]].concat();
-        refused(&words, &format!("add needs {left_out} {value} as well"));
+        let message = format!("add needs {left_out} {value} as well");
+        wrong_use(&folder, &words, &message);
     }
     for word in [
         "65536", "0x10000", "-1", "+1", "1209h", "FFFF", "0x", "0X1", "1.0",
@@ -320,10 +329,8 @@ fn wrong_use_ends_with_2() {
             "--vendor takes a number from 0 to 65535, decimal or in hex after 0x, \
              and '{word}' is none"
         );
-        refused(&adding("f", ["1", "2", word], "out")[1..], &why);
+        wrong_use(&folder, &adding("f", ["1", "2", word], "out")[1..], &why);
     }
-    refused(&["add", "f", "--device"], "--device needs a number");
-    assert_eq!(folder.names(), ["f"]);
 }
 
 #[test]
