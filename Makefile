@@ -99,9 +99,10 @@ checked: build/libboard.a
 	! build/checked/liar write 2> build/checked/liar.said
 	grep -q '^WRITE of size' build/checked/liar.said
 
-# Stock dfu-util on the proved calls, by a stand-in for libusb. The gate goes on without where it is not installed, and says so.
+# Stock dfu-util on the proved calls, by a stand-in for libusb, and the tool beside dfu-suffix. The gate goes on without where it is not
+# installed, and says so.
 test: STOCK = --or-skip
-stock: build/libboard.a
+stock: tool
 	@tools/stock $(STOCK)
 
 # Installs what the tests use and this machine lacks, where that can be done, and says what is missing still.

@@ -1,10 +1,10 @@
-//! Stock `dfu-util` against the proved loader: `stock FOLDER PAGE`. The folder
+//! Stock `dfu-util` against the proved loader: `stock FOLDER PAGE TOOL`. The folder
 //! holds a stand-in for libusb that is a board (`tests/stock/libusb.c`) and a
 //! client for single commands (`tests/stock/command.c`). After each run of a
 //! client, its exit status and words, the board's flash, its session and every
 //! transfer are held to what was worked out here, and to the second loader.
 //! The page tells technicians what the words mean; it may quote none that were
-//! not said.
+//! not said. The technician's tool is held to `dfu-suffix` and `dfu-prefix`.
 
 #[path = "stock/bench.rs"]
 mod bench;
@@ -16,6 +16,8 @@ mod edges;
 mod files;
 #[path = "stock/refusals.rs"]
 mod refusals;
+#[path = "stock/suffixes.rs"]
+mod suffixes;
 #[path = "stock/uploads.rs"]
 mod uploads;
 
@@ -27,7 +29,7 @@ use std::process::ExitCode;
 /// A case tries something on the bench, and says what was not as it should be.
 type Case = fn(&mut Bench) -> Result<(), String>;
 
-const CASES: [(&str, Case); 24] = [
+const CASES: [(&str, Case); 31] = [
     ("list", uploads::list),
     ("upload whole", uploads::whole),
     ("upload what a command chose", uploads::chosen),
@@ -55,15 +57,22 @@ const CASES: [(&str, Case); 24] = [
     ("commands that are refused", edges::refused_commands),
     ("a command as a download", edges::command_as_download),
     ("detach and restart", edges::restarts),
+    ("suffixes that dfu-suffix writes", suffixes::read),
+    ("suffixes that mullirim writes", suffixes::write),
+    ("suffixes taken off again", suffixes::take_off),
+    ("suffixes that are damaged", suffixes::damaged),
+    ("files without a suffix", suffixes::without),
+    ("suffixes on which the tools differ", suffixes::otherwise),
+    ("a visit with a stock tool's file", suffixes::visit),
 ];
 
 fn main() -> ExitCode {
     let words: Vec<String> = std::env::args().skip(1).collect();
-    let [folder, page] = &words[..] else {
-        eprintln!("stock FOLDER PAGE");
+    let [folder, page, tool] = &words[..] else {
+        eprintln!("stock FOLDER PAGE TOOL");
         return ExitCode::from(2);
     };
-    let mut bench = match Bench::new(Path::new(folder)) {
+    let mut bench = match Bench::new(Path::new(folder), Path::new(tool)) {
         Ok(bench) => bench,
         Err(error) => return failed("the bench", &error),
     };

@@ -2,80 +2,60 @@
 
 use crate::names::shown;
 use crate::screen::{counted, grouped};
-use mullirim_host::second::{command, BLOCK, MOST_BLOCKS};
+use crate::wrapping::{self, Wrapping};
+use mullirim_host::second::{BLOCK, MOST_BLOCKS};
 use std::fs::File;
 use std::io::Read;
 use std::path::Path;
 
 pub const BLOCK_BYTES: usize = BLOCK as usize;
 const MOST_BYTES: usize = MOST_BLOCKS * BLOCK_BYTES;
-/// The end of a file for dfu-util: numbers of its device, the signature, its
-/// own length and a sum.
-const SUFFIX: usize = 16;
+/// No flash is longer with all that may be wrapped around it.
+const MOST_WRAPPED: usize = MOST_BYTES + wrapping::MOST_BYTES;
+
+/// The bytes for an application, and what stood around them in their file.
+#[derive(Debug, PartialEq)]
+pub struct Image {
+    pub bytes: Vec<u8>,
+    pub wrapping: Wrapping,
+}
 
 pub fn read_flash(path: &Path) -> Result<Vec<u8>, String> {
-    judged(path, |flash| fit_flash(flash.len()))
-}
-
-/// An image for an application of `room` bytes.
-pub fn read_image(path: &Path, room: usize) -> Result<Vec<u8>, String> {
-    judged(path, |image| fit_image(image.len(), room))
-}
-
-fn judged(path: &Path, judge: impl Fn(&[u8]) -> Result<(), String>) -> Result<Vec<u8>, String> {
-    let bytes = read(path).map_err(|error| format!("can't read {}: {error}", shown(path)))?;
+    let file = read_up_to(path, MOST_WRAPPED + 1)?;
     // What is wrapped also has the wrong length, mostly; the wrapping is why.
-    bare(&bytes)
-        .and_then(|()| judge(&bytes))
+    wrapping::none_around(&file)
+        .and_then(|()| fit_flash(file.len()))
         .map_err(|why| format!("{}: {why}", shown(path)))?;
-    Ok(bytes)
+    Ok(file)
 }
 
-/// Reads one byte more than any flash has at most with all that may be wrapped
-/// around it, so that a file without an end is refused and not awaited.
-fn read(path: &Path) -> std::io::Result<Vec<u8>> {
-    let most = command::LENGTH + MOST_BYTES + SUFFIX + 1;
+/// An image for an application of `room` bytes from block `first` on.
+pub fn read_image(path: &Path, first: u16, room: usize) -> Result<Image, String> {
+    let file = read_up_to(path, MOST_WRAPPED + 1)?;
+    image_of(&file, first, room).map_err(|why| format!("{}: {why}", shown(path)))
+}
+
+/// At most so many bytes of a file, so that one without an end is not awaited.
+pub fn read_up_to(path: &Path, most: usize) -> Result<Vec<u8>, String> {
     let mut bytes = Vec::new();
-    File::open(path)?
-        .take(most as u64)
-        .read_to_end(&mut bytes)?;
+    File::open(path)
+        .and_then(|file| file.take(most as u64).read_to_end(&mut bytes))
+        .map_err(|error| format!("can't read {}: {error}", shown(path)))?;
     Ok(bytes)
 }
 
-/// The tool takes bytes as they stand in flash; what files for other tools
-/// carry around them must be taken off.
-fn bare(bytes: &[u8]) -> Result<(), String> {
-    if ends_in_suffix(bytes) {
-        return Err(
-            "the file ends in a DFU suffix, whose 16 bytes would be taken for firmware; \
-             take them off first"
-                .to_string(),
-        );
+fn image_of(file: &[u8], first: u16, room: usize) -> Result<Image, String> {
+    // Such a file may not have been read to its end, where a suffix would be;
+    // and its image is too long, whatever is around it.
+    if file.len() > MOST_WRAPPED {
+        fit_image(file.len(), room)?;
     }
-    if begins_with_prog(bytes) {
-        return Err(
-            "the file begins with a PROG header, whose 8 bytes would shift the firmware; \
-             take them off first"
-                .to_string(),
-        );
-    }
-    Ok(())
-}
-
-fn ends_in_suffix(bytes: &[u8]) -> bool {
-    match bytes.last_chunk::<SUFFIX>() {
-        Some(end) => end[8..12] == [b'U', b'F', b'D', SUFFIX as u8],
-        None => false,
-    }
-}
-
-fn begins_with_prog(bytes: &[u8]) -> bool {
-    match bytes.split_first_chunk::<{ command::LENGTH }>() {
-        Some(([command::PROG, _, _, _, length @ ..], rest)) => {
-            u32::from_le_bytes(*length) as usize == rest.len()
-        }
-        _ => false,
-    }
+    let (image, wrapping) = wrapping::taken_off(file, first)?;
+    fit_image(image.len(), room)?;
+    Ok(Image {
+        bytes: image.to_vec(),
+        wrapping,
+    })
 }
 
 /// A file's length as far as it was read.
@@ -116,6 +96,7 @@ mod tests {
     use super::*;
     use mullirim_host::second::sum;
     use mullirim_host::tape::header;
+    use std::path::PathBuf;
 
     #[test]
     fn a_flash_is_two_to_the_most_whole_blocks() {
@@ -162,70 +143,76 @@ mod tests {
         file
     }
 
-    #[test]
-    fn a_suffix_is_known_by_its_signature_and_length() {
-        let file = suffixed(&[0x42; 100]);
-        let why = "the file ends in a DFU suffix, whose 16 bytes would be taken for firmware; \
-                   take them off first";
-        assert_eq!(bare(&file), Err(why.to_string()));
-        assert_eq!(bare(&file[..file.len() - 1]), Ok(()));
-        assert_eq!(bare(&file[file.len() - 16..]), Err(why.to_string()));
-        assert_eq!(bare(&file[file.len() - 15..]), Ok(()));
-        for byte in 108..112 {
-            let mut other = file.clone();
-            other[byte] ^= 1;
-            assert_eq!(bare(&other), Ok(()), "{byte}");
-        }
+    fn headed(block: u16, image: &[u8]) -> Vec<u8> {
+        [&header(1, block, image.len() as u32)[..], image].concat()
     }
 
-    #[test]
-    fn a_header_is_known_by_its_command_and_a_length_that_matches() {
-        let firmware = [0x42; 300];
-        let prog = |length: u32| [&header(1, 16, length)[..], &firmware].concat();
-        let why = "the file begins with a PROG header, whose 8 bytes would shift the firmware; \
-                   take them off first";
-        let mut file = prog(300);
-        assert_eq!(bare(&file), Err(why.to_string()));
-        file[1] = 0xEE;
-        assert_eq!(bare(&file), Err(why.to_string()));
-        file[0] = 2;
-        assert_eq!(bare(&file), Ok(()));
-        for length in [0, 299, 301, 308, 300 << 8, u32::MAX] {
-            assert_eq!(bare(&prog(length)), Ok(()));
-        }
-        assert_eq!(bare(&[1, 0, 16, 0, 0, 0, 0, 0]), Err(why.to_string()));
-        assert_eq!(bare(&[1, 0, 16, 0, 0, 0, 0]), Ok(()));
-        assert_eq!(bare(&[]), Ok(()));
-    }
-
-    /// Also where both are there: what stands around all else comes off first.
-    #[test]
-    fn the_suffix_is_told_before_the_header() {
-        let firmware = [&header(1, 16, 64)[..], &[0x42; 64]].concat();
-        assert!(bare(&suffixed(&firmware))
-            .unwrap_err()
-            .contains("DFU suffix"));
+    /// A file that is there while it is looked at.
+    fn laid<T>(name: &str, bytes: &[u8], look: impl Fn(&Path) -> T) -> T {
+        let name = format!("mullirim-{name}-{}", std::process::id());
+        let path: PathBuf = std::env::temp_dir().join(name);
+        std::fs::write(&path, bytes).unwrap();
+        let seen = look(&path);
+        std::fs::remove_file(path).unwrap();
+        seen
     }
 
     #[test]
     fn a_whole_flash_with_both_is_still_read_to_its_end() {
-        let name = format!("mullirim-wrapped-{}", std::process::id());
-        let path = std::env::temp_dir().join(name);
-        let firmware = [&header(1, 0, MOST_BYTES as u32)[..], &[0x42; MOST_BYTES]].concat();
-        std::fs::write(&path, suffixed(&firmware)).unwrap();
-        let refused = read_flash(&path);
-        std::fs::write(&path, &firmware).unwrap();
-        let again = read_flash(&path);
-        std::fs::remove_file(path).unwrap();
+        let firmware = headed(0, &[0x42; MOST_BYTES]);
+        let refused = laid("both", &suffixed(&firmware), read_flash);
         assert!(refused.unwrap_err().contains("DFU suffix"));
-        assert!(again.unwrap_err().contains("PROG header"));
+        let refused = laid("header", &firmware, read_flash);
+        assert!(refused.unwrap_err().contains("PROG header"));
+    }
+
+    #[test]
+    fn an_image_is_judged_without_its_wrapping() {
+        let room = 2_048;
+        for length in [1, room] {
+            let image = vec![0x42; length];
+            let headed = headed(7, &image);
+            for file in [&image, &suffixed(&image), &headed, &suffixed(&headed)] {
+                assert_eq!(image_of(file, 7, room).unwrap().bytes, image);
+            }
+        }
+        for (length, why) in [
+            (0, "the image is empty; a download has at least 1 byte"),
+            (
+                room + 1,
+                "the image has 2,049 bytes, and the application holds 2,048 bytes",
+            ),
+        ] {
+            let image = vec![0x42; length];
+            let headed = headed(7, &image);
+            for file in [&image, &suffixed(&image), &headed, &suffixed(&headed)] {
+                assert_eq!(image_of(file, 7, room), Err(why.to_string()));
+            }
+        }
+    }
+
+    /// What was not read to its end has no suffix there, whatever its last bytes
+    /// look like.
+    #[test]
+    fn a_file_that_is_longer_than_all_is_too_long_and_not_damaged() {
+        let why = "the image has more than 65,536 bytes, and the application holds 1,024 bytes";
+        let mut file = suffixed(&headed(1, &[0x42; MOST_BYTES]));
+        assert_eq!(
+            image_of(&file, 1, 1_024),
+            Err(why.replace("more than ", ""))
+        );
+        file[9] ^= 1;
+        assert!(image_of(&file, 1, 1_024).unwrap_err().contains("the sum"));
+        file.insert(0, 0);
+        assert_eq!(image_of(&file, 1, 1_024), Err(why.to_string()));
     }
 
     #[test]
     fn a_file_without_an_end_is_refused() {
         let why = "/dev/zero: no flash has more than 65,536 bytes; ";
-        assert!(read_flash(Path::new("/dev/zero"))
-            .unwrap_err()
-            .starts_with(why));
+        let endless = Path::new("/dev/zero");
+        assert!(read_flash(endless).unwrap_err().starts_with(why));
+        let why = "/dev/zero: the image has more than 65,536 bytes, ";
+        assert!(read_image(endless, 1, 1_024).unwrap_err().starts_with(why));
     }
 }

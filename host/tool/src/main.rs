@@ -1,16 +1,18 @@
 //! mullirim, the technician's tool. What it does to a flash, and the sums that
-//! it tells of one, go through the proved calls.
+//! it tells of one, go through the proved calls; so do the suffixes of DFU files.
 
 mod files;
 mod names;
 mod place;
 mod screen;
 mod store;
+mod suffix;
 mod sums;
 mod terminal;
 mod visit;
 mod wire;
 mod words;
+mod wrapping;
 
 use names::shown;
 use screen::Screen;
@@ -26,8 +28,11 @@ mullirim: the technician's tool for boards that run the loader Mullirim
   mullirim sums [FLAGS] FILE  the block sums of a flash file, or of an image
                               as it would stand in one; or which blocks of
                               two files differ
+  mullirim suffix show FILE   the suffix of a DFU file; with check or add in
+                              place of show, whether the file is whole, or a
+                              file with a suffix behind it
 
-  mullirim visit --help and mullirim sums --help show their flags.
+  With --help behind it, each of them shows its flags.
 
 Exit: 0 done, 1 a file that can't be used or a visit that failed, 2 wrong use.";
 
@@ -46,6 +51,7 @@ enum Command {
     Overview,
     Visit,
     Sums,
+    Suffix,
 }
 
 impl Command {
@@ -55,6 +61,7 @@ impl Command {
             Command::Overview => "mullirim",
             Command::Visit => "mullirim visit",
             Command::Sums => "mullirim sums",
+            Command::Suffix => "mullirim suffix",
         }
     }
 }
@@ -82,6 +89,7 @@ fn run(words: &[OsString], out: impl Write, columns: Option<usize>) -> (Command,
     let (command, went) = match first {
         Some("visit") => (Command::Visit, visit::run(rest, &mut screen)),
         Some("sums") => (Command::Sums, sums::run(rest, &mut screen)),
+        Some("suffix") => (Command::Suffix, suffix::run(rest, &mut screen)),
         _ => (Command::Overview, overview(words, &mut screen)),
     };
     // The screen is closed also where the command failed, so that the message
@@ -99,7 +107,7 @@ fn overview<W: Write>(words: &[OsString], screen: &mut Screen<W>) -> Result<(), 
         return Ok(());
     }
     Err(End::Usage(match words.first() {
-        None => "say what to do: visit or sums".to_string(),
+        None => "say what to do: visit, sums or suffix".to_string(),
         Some(word) => format!("no command is called {}", shown(word)),
     }))
 }

@@ -24,6 +24,7 @@ const ENOUGH: u64 = 1_000_000;
 
 pub struct Bench {
     folder: PathBuf,
+    mullirim: PathBuf,
     pub first: u32,
     /// What the board must hold: the flash by each case's own reckoning, the
     /// session by the second loader.
@@ -31,6 +32,7 @@ pub struct Bench {
     pub session: Session,
     runs: usize,
     transfers: usize,
+    file_runs: usize,
     all_said: String,
 }
 
@@ -65,8 +67,11 @@ impl Left<'_> {
 }
 
 impl Bench {
-    pub fn new(folder: &Path) -> Result<Bench, String> {
-        let folder = fs::canonicalize(folder).map_err(|error| error.to_string())?;
+    pub fn new(folder: &Path, mullirim: &Path) -> Result<Bench, String> {
+        let found = |path: &Path| {
+            fs::canonicalize(path).map_err(|error| format!("{}: {error}", path.display()))
+        };
+        let (folder, mullirim) = (found(folder)?, found(mullirim)?);
         for name in ["libusb-1.0.so.0", "command"] {
             if !folder.join(name).is_file() {
                 return Err(format!("no {name} in {}", folder.display()));
@@ -74,11 +79,13 @@ impl Bench {
         }
         Ok(Bench {
             folder,
+            mullirim,
             first: 0,
             flash: Vec::new(),
             session: Session::zeros(),
             runs: 0,
             transfers: 0,
+            file_runs: 0,
             all_said: String::new(),
         })
     }
@@ -155,12 +162,32 @@ impl Bench {
         }
     }
 
+    /// A program that only works on files, which may end in any way.
+    pub fn on_files(&mut self, program: &str, words: &[&str]) -> Result<Run, String> {
+        self.file_runs += 1;
+        self.ended(program, words, None)
+    }
+
+    /// The technician's tool.
+    pub fn mullirim(&mut self, words: &[&str]) -> Result<Run, String> {
+        let program = self.mullirim.to_string_lossy().into_owned();
+        self.on_files(&program, words)
+    }
+
+    /// A client of the board.
     pub fn run(
         &mut self,
         program: &str,
         words: &[&str],
         until: Option<u64>,
     ) -> Result<Run, String> {
+        self.runs += 1;
+        let run = self.ended(program, words, until)?;
+        self.all_said.push_str(&run.words);
+        Ok(run)
+    }
+
+    fn ended(&self, program: &str, words: &[&str], until: Option<u64>) -> Result<Run, String> {
         self.remove("trace");
         let said = File::create(self.file("said")).map_err(|error| error.to_string())?;
         let also = said.try_clone().map_err(|error| error.to_string())?;
@@ -179,9 +206,7 @@ impl Bench {
             .spawn()
             .map_err(|error| format!("{program}: {error}"))?;
         let exit = self.wait(child, until)?;
-        self.runs += 1;
         let words = String::from_utf8_lossy(&self.read("said")?).into_owned();
-        self.all_said.push_str(&words);
         Ok(Run { exit, words })
     }
 
@@ -284,8 +309,12 @@ impl Bench {
     }
 
     pub fn tally(&self) -> String {
-        let (runs, transfers) = (self.runs, self.transfers);
-        format!("{runs} runs of stock clients, {transfers} transfers: flash, sums, sessions and exits as they must be")
+        let (runs, transfers, file_runs) = (self.runs, self.transfers, self.file_runs);
+        format!(
+            "{runs} runs of stock clients, {transfers} transfers: flash, sums, sessions and exits \
+             as they must be; {file_runs} runs of dfu-suffix, dfu-prefix and mullirim on files: \
+             bytes, numbers and refusals as they must be"
+        )
     }
 }
 

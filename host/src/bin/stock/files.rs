@@ -20,8 +20,13 @@ pub fn prefixed(block: u32, image: &[u8]) -> Vec<u8> {
 
 /// A file with the DFU suffix for this vendor and product: no version, DFU 1.0.
 pub fn suffixed(file: &[u8], vendor: u16, product: u16) -> Vec<u8> {
+    suffixed_for(file, [0xFFFF, product, vendor])
+}
+
+/// The same for this device, product and vendor.
+pub fn suffixed_for(file: &[u8], numbers: [u16; 3]) -> Vec<u8> {
     let mut all = file.to_vec();
-    for number in [0xFFFF, product, vendor, 0x0100] {
+    for number in numbers.into_iter().chain([0x0100]) {
         all.extend(number.to_le_bytes());
     }
     all.extend(b"UFD\x10");

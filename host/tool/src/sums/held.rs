@@ -1,46 +1,58 @@
 //! A file with the loader started on it.
 
 use super::words::{Kind, Source, Split};
-use crate::files::{read_flash, read_image, BLOCK_BYTES};
+use crate::files::{read_flash, read_image, Image, BLOCK_BYTES};
 use crate::names::shown;
 use crate::screen::counted;
 use crate::wire::Wire;
+use crate::wrapping::Wrapping;
 use mullirim_host::second::ERASED;
 
 pub struct Held {
     pub source: Source,
-    /// The bytes of the file.
+    /// The bytes of the flash, or of the image without its wrapping.
     pub bytes: usize,
+    /// Nothing for a flash, which has none.
+    pub wrapping: Option<Wrapping>,
     pub split: Split,
     pub wire: Wire,
 }
 
 pub fn hold(source: Source, split: Split) -> Result<Held, String> {
-    let (bytes, flash) = match source.kind {
-        Kind::Image => stand(&source, split)?,
+    let (bytes, wrapping, flash) = match source.kind {
+        Kind::Image => {
+            let image = image(&source, split)?;
+            let flash = stand(&image.bytes, split);
+            (image.bytes.len(), Some(image.wrapping), flash)
+        }
         Kind::Flash => {
             let flash = read_flash(&source.path)?;
             fit_split(split, (flash.len() / BLOCK_BYTES) as u16)
                 .map_err(|why| format!("{}: {why}", shown(&source.path)))?;
-            (flash.len(), flash)
+            (flash.len(), None, flash)
         }
     };
     Ok(Held {
         wire: Wire::start(flash, split.first)?,
         source,
         bytes,
+        wrapping,
         split,
     })
 }
 
+fn image(source: &Source, split: Split) -> Result<Image, String> {
+    let room = usize::from(split.blocks - split.first) * BLOCK_BYTES;
+    read_image(&source.path, split.first, room)
+}
+
 /// The image as a visit leaves it: after it the application is erased. What is
 /// in the boot area has no part in the sums.
-fn stand(source: &Source, split: Split) -> Result<(usize, Vec<u8>), String> {
+fn stand(image: &[u8], split: Split) -> Vec<u8> {
     let [first, all] = [split.first, split.blocks].map(|block| usize::from(block) * BLOCK_BYTES);
-    let image = read_image(&source.path, all - first)?;
     let mut flash = vec![ERASED; all];
-    flash[first..first + image.len()].copy_from_slice(&image);
-    Ok((image.len(), flash))
+    flash[first..first + image.len()].copy_from_slice(image);
+    flash
 }
 
 /// An application saved by itself often has whole blocks too, and would pass for

@@ -11,6 +11,7 @@ pub fn one(held: &Held) -> String {
     members.extend(split(held));
     members.push(("sums", array(held.blocks().map(row))));
     members.push(("whole", sum(held.whole())));
+    members.extend(taken_off(held));
     object(&members)
 }
 
@@ -21,7 +22,8 @@ pub fn two(old: &Held, new: &Held, difference: &Difference) -> String {
         object(&[("block", number(*block)), one, other])
     };
     let numbers = |blocks: &Vec<usize>| array(blocks.iter().map(|block| number(*block)));
-    let mut members = vec![("old", object(&source(old))), ("new", object(&source(new)))];
+    let which = |held| object(&[source(held), taken_off(held)].concat());
+    let mut members = vec![("old", which(old)), ("new", which(new))];
     members.extend(split(old));
     members.push(("changed", array(difference.changed.iter().map(row))));
     members.push(("whole", object(&pair(old.whole(), new.whole()))));
@@ -42,6 +44,26 @@ fn source(held: &Held) -> Vec<Member> {
         ("file", string(&held.source.path.to_string_lossy())),
         ("kind", string(kind)),
         ("bytes", number(held.bytes)),
+    ]
+}
+
+/// What stood around an image in its file; a flash has no such members.
+fn taken_off(held: &Held) -> Vec<Member> {
+    let Some(wrapping) = held.wrapping else {
+        return Vec::new();
+    };
+    let suffix = wrapping.suffix.map(|parts| {
+        object(&[
+            ("device", number(parts.device.into())),
+            ("product", number(parts.product.into())),
+            ("vendor", number(parts.vendor.into())),
+        ])
+    });
+    let header = wrapping.header.map(|block| number(block.into()));
+    let null = || "null".to_string();
+    vec![
+        ("suffix", suffix.unwrap_or_else(null)),
+        ("header_block", header.unwrap_or_else(null)),
     ]
 }
 

@@ -8,12 +8,9 @@ use crate::screen::counted;
 use crate::visit::row;
 
 pub fn one(held: &Held) -> String {
-    let mut lines = vec![
-        format!("{}: {}", shown(&held.source.path), what(held)),
-        application(held),
-        String::new(),
-        "block   sum".to_string(),
-    ];
+    let mut lines = vec![format!("{}: {}", shown(&held.source.path), what(held))];
+    lines.extend(taken_off(held));
+    lines.extend([application(held), String::new(), "block   sum".to_string()]);
     for block in held.blocks() {
         lines.push(format!("{block:>5}   {:08X}", held.sum(block)));
     }
@@ -30,9 +27,13 @@ pub fn two(old: &Held, new: &Held, difference: &Difference) -> String {
         "differ"
     };
     let do_not = if same == 1 { "does" } else { "do" };
-    let mut lines = vec![
-        format!("old: {}, {}", shown(&old.source.path), what(old)),
-        format!("new: {}, {}", shown(&new.source.path), what(new)),
+    let mut lines = Vec::new();
+    for (which, held) in [("old", old), ("new", new)] {
+        let path = shown(&held.source.path);
+        lines.push(format!("{which}: {path}, {}", what(held)));
+        lines.extend(taken_off(held));
+    }
+    lines.extend([
         application(old),
         format!(
             "{} {differ}, {same} {do_not} not",
@@ -40,7 +41,7 @@ pub fn two(old: &Held, new: &Held, difference: &Difference) -> String {
         ),
         String::new(),
         "block   old sum    new sum".to_string(),
-    ];
+    ]);
     for block in changed {
         let (old, new) = (old.sum(*block), new.sum(*block));
         lines.push(row(&block.to_string(), old, new));
@@ -59,6 +60,12 @@ fn what(held: &Held) -> String {
             counted(held.split.blocks.into(), "block")
         ),
     }
+}
+
+/// What stood around an image in its file, set in under the file's name.
+fn taken_off(held: &Held) -> Vec<String> {
+    let told = held.wrapping.map_or(Vec::new(), |wrapping| wrapping.told());
+    told.iter().map(|line| format!("     {line}")).collect()
 }
 
 fn application(held: &Held) -> String {

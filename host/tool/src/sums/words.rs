@@ -15,7 +15,8 @@ mullirim sums: the sums that the dashboard reads of a board
                                       application and of the whole, in a
                                       flash file of 2 to MOST blocks
   mullirim sums --image FILE          the same for an image, as it would
-                                      stand in an erased application
+                                      stand in an erased application,
+                                      without DFU suffix and PROG header
   mullirim sums --compare OLD NEW     the blocks that differ; either may be
                                       an image: --image FILE in its place
 

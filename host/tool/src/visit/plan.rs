@@ -3,8 +3,9 @@
 
 use super::tariff;
 use super::words::Words;
-use crate::files::{read_flash, read_image, BLOCK_BYTES};
+use crate::files::{read_flash, read_image, Image, BLOCK_BYTES};
 use crate::names::shown;
+use crate::wrapping::Wrapping;
 use std::path::PathBuf;
 
 /// Where the application starts, unless another block is named.
@@ -17,7 +18,7 @@ pub struct Plan {
     pub first: u16,
     pub image: Vec<u8>,
     pub image_name: String,
-    /// What the image corrects, where that is known.
+    /// What the image corrects, where that is known, or how it came.
     pub notes: Vec<String>,
     pub save: Option<PathBuf>,
     pub after: Option<PathBuf>,
@@ -30,25 +31,33 @@ pub fn judge(words: Words) -> Result<Plan, String> {
         .map_or(tariff::BLOCKS, |flash| blocks_of(flash));
     let first = fit_split(words.split.unwrap_or(USUAL_SPLIT), blocks)?;
     let room = usize::from(blocks - first) * BLOCK_BYTES;
-    let image = match &words.image {
-        Some(path) => read_image(path, room)?,
-        None => tariff::corrected(room),
+    let (image, notes) = match &words.image {
+        Some(path) => {
+            let Image { bytes, wrapping } = read_image(path, first, room)?;
+            (bytes, came(&wrapping))
+        }
+        None if words.flash.is_none() => (tariff::corrected(room), tariff::notes(room)),
+        None => (tariff::corrected(room), Vec::new()),
     };
-    let built_in = words.flash.is_none() && words.image.is_none();
     Ok(Plan {
         flash_name: name(&words.flash, "the built-in flash with the old tariff"),
         flash: given.unwrap_or_else(|| tariff::flash(first)),
         first,
         image_name: name(&words.image, "the built-in corrected image"),
         image,
-        notes: if built_in {
-            tariff::notes(room)
-        } else {
-            Vec::new()
-        },
+        notes,
         save: words.save,
         after: words.after,
     })
+}
+
+/// What a technician should know of the image's file before trusting it.
+fn came(wrapping: &Wrapping) -> Vec<String> {
+    let mut notes = wrapping.told();
+    if wrapping.suffix.is_none() {
+        notes.push("no DFU suffix: nothing vouches for these bytes".to_string());
+    }
+    notes
 }
 
 fn name(path: &Option<PathBuf>, built_in: &str) -> String {

@@ -15,7 +15,9 @@ downloads the corrected image and shows which block sums changed.
 
   --flash FILE   the flash to start on: 2 to MOST blocks of 1,024 bytes
                  (without it: a built-in flash of 64 blocks, old tariff)
-  --image FILE   the corrected image, at most as long as the application
+  --image FILE   the corrected image, at most as long as the application;
+                 a DFU suffix and a PROG header are taken off, and a file
+                 whose suffix is damaged is refused
                  (without it: the built-in image, two prices corrected,
                  cut where the application is shorter)
   --split A      the block at which the application starts (without it: 16)

@@ -1,6 +1,7 @@
 //! What is left of files where writing fails, and of runs whose output goes
 //! nowhere.
 
+use crate::dfu::suffixed;
 use crate::folder::{Folder, Said, TOOL};
 use std::fs::OpenOptions;
 use std::io::Read;
@@ -45,6 +46,28 @@ fn a_full_disk_leaves_no_half_of_a_new_file() {
 }
 
 #[test]
+fn a_full_disk_leaves_no_half_of_a_file_with_a_suffix() {
+    let folder = Folder::new("half");
+    folder.put("f", [7; 5_000]);
+    let numbers = ["--device", "1", "--product", "2", "--vendor", "3"];
+    let words = [&["suffix", "add", "f", "-o", "out"], &numbers[..]].concat();
+    let why = "mullirim suffix: can't write out: File too large (os error 27)\n";
+    for before in [None, Some("the old one")] {
+        if let Some(bytes) = before {
+            folder.put("out", bytes);
+        }
+        let said = on_a_full_disk(&folder, &words);
+        assert_eq!((said.code, &*said.out, &*said.err), (Some(1), "", why));
+        assert_eq!(folder.get("f"), [7; 5_000]);
+        match before {
+            None => assert_eq!(folder.names(), ["f"]),
+            Some(bytes) => assert_eq!(folder.get("out"), bytes.as_bytes()),
+        }
+    }
+    assert_eq!(folder.names(), ["f", "out"]);
+}
+
+#[test]
 fn a_folder_that_cannot_be_written_is_named() {
     let folder = Folder::new("closed");
     for target in ["none/save", "/proc/self/save"] {
@@ -78,12 +101,17 @@ fn files_are_written_over_whole_and_leave_nothing_beside() {
 fn output_that_cannot_be_written_ends_with_1() {
     let folder = Folder::new("output");
     folder.put("i", [7; 5]);
+    folder.put("d", suffixed(&[7; 5], [1, 2, 3]));
     for (words, who) in [
         (&["--help"][..], "mullirim"),
         (&["visit"], "mullirim visit"),
         (&["visit", "--help"], "mullirim visit"),
         (&["sums", "--image", "i"], "mullirim sums"),
         (&["sums", "--image", "i", "--json"], "mullirim sums"),
+        (&["suffix", "--help"], "mullirim suffix"),
+        (&["suffix", "show", "d"], "mullirim suffix"),
+        (&["suffix", "show", "d", "--json"], "mullirim suffix"),
+        (&["suffix", "check", "d"], "mullirim suffix"),
     ] {
         let full = OpenOptions::new().write(true).open("/dev/full").unwrap();
         let mut command = folder.command(TOOL);

@@ -1,8 +1,8 @@
 //! What can't be used or understood: the message, the exit code, and nothing
 //! on standard output.
 
+use crate::dfu::{headed, suffixed};
 use crate::folder::{some_flash, Folder};
-use mullirim_host::second::sum;
 use std::ffi::OsStr;
 use std::fs;
 use std::os::unix::ffi::OsStrExt;
@@ -15,7 +15,7 @@ fn wrong_use_ends_with_2() {
     let refused = |words: &[&str], message: &str| {
         folder.refused(words, 2, &format!("{message} {HOW}"));
     };
-    refused(&[], "mullirim: say what to do: visit or sums");
+    refused(&[], "mullirim: say what to do: visit, sums or suffix");
     refused(&["fly"], "mullirim: no command is called fly");
     refused(&["--json"], "mullirim: no command is called --json");
     refused(&["Sums", "f"], "mullirim: no command is called Sums");
@@ -187,66 +187,45 @@ fn an_image_fits_the_application() {
     folder.refused(&["sums", "--image", "i", "--split", "3:4"], 1, why);
 }
 
-/// As `dfu-suffix` writes it: device, product, maker, DFU 1.0, the signature,
-/// its length, and the sum of all before.
-fn suffixed(firmware: &[u8]) -> Vec<u8> {
-    let numbers = [0x00, 0x01, 0xFF, 0xFF, 0x51, 0x04, 0x00, 0x01];
-    let mut file = [firmware, &numbers, b"UFD", &[16]].concat();
-    let sum = sum(&file);
-    file.extend(sum.to_le_bytes());
-    file
+/// The ways in which a flash comes to the tool.
+fn flash_ways(file: &str) -> [(Vec<&str>, &'static str); 3] {
+    [
+        (vec!["sums", file], "mullirim sums"),
+        (vec!["sums", "--compare", file, "other"], "mullirim sums"),
+        (vec!["visit", "--flash", file], "mullirim visit"),
+    ]
 }
 
 #[test]
-fn a_file_with_a_suffix_is_refused_in_every_way() {
+fn a_flash_with_a_suffix_is_refused_in_every_way() {
     let folder = Folder::new("suffix");
+    folder.put("other", some_flash(2, 64));
     let why = "f: the file ends in a DFU suffix, whose 16 bytes would be taken for firmware; \
-               take them off first";
+               take them off first, or name it by --image if it is an image";
     let flash = some_flash(1, 64);
     for firmware in [&flash[..], &flash[..49_152 - 16], &flash[..1_008], &[]] {
-        let file = suffixed(firmware);
-        folder.put("f", &file);
-        for (words, who) in ways("f") {
+        folder.put("f", suffixed(firmware, [0x0100, 0xFFFF, 0x0451]));
+        for (words, who) in flash_ways("f") {
             folder.refused(&words, 1, &format!("{who}: {why}"));
         }
-        // Without it the same bytes are taken, where they are enough.
-        folder.put("f", &file[..file.len() - 16]);
-        let taken = folder.run(&["sums", "--image", "f", "--split", "1:64"]);
-        let fits = (1..=64_512).contains(&firmware.len());
-        assert_eq!(taken.code, Some(i32::from(!fits)), "{}", taken.err);
     }
+    folder.put("f", &flash);
+    folder.done(&["sums", "f"]);
 }
 
 #[test]
-fn a_file_with_a_header_is_refused_in_every_way() {
+fn a_flash_with_a_header_is_refused_in_every_way() {
     let folder = Folder::new("header");
+    folder.put("other", some_flash(2, 64));
     let why = "f: the file begins with a PROG header, whose 8 bytes would shift the firmware; \
-               take them off first";
+               take them off first, or name it by --image if it is an image";
     let flash = some_flash(1, 64);
-    for length in [1, 1_016, 20_000, 49_144, 65_528, 65_536] {
-        let length_bytes = u32::to_le_bytes(length);
-        let head = [&[1, 0, 16, 0], &length_bytes[..]].concat();
-        folder.put("f", [&head, &flash[..length as usize]].concat());
-        for (words, who) in ways("f") {
+    for length in [0, 1, 1_016, 20_000, 49_144, 65_528, 65_536] {
+        folder.put("f", headed(16, &flash[..length]));
+        for (words, who) in flash_ways("f") {
             folder.refused(&words, 1, &format!("{who}: {why}"));
         }
     }
-    // A length that does not match is firmware that happens to begin so.
-    folder.put("f", [&[1, 0, 16, 0, 9, 0, 0, 0], &flash[..8]].concat());
-    folder.done(&["sums", "--image", "f"]);
-}
-
-/// What `visit` hands out with its header and what it saves: the first is what
-/// a board answers to an upload, the second is taken.
-#[test]
-fn what_a_visit_saves_is_bare() {
-    let folder = Folder::new("bare");
-    folder.done(&["visit", "--save", "s"]);
-    folder.done(&["sums", "--image", "s"]);
-    let saved = folder.get("s");
-    let head = [1, 0, 16, 0, 0, 0xC0, 0, 0];
-    folder.put("s", [&head, &saved[..]].concat());
-    assert_eq!(folder.run(&["sums", "--image", "s"]).code, Some(1));
 }
 
 #[test]

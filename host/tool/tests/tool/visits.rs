@@ -7,7 +7,9 @@ fn help_is_shown_everywhere() {
     let folder = Folder::new("help");
     let all = folder.done(&["--help"]);
     assert!(all.starts_with("mullirim: the technician's tool"));
-    assert!(all.contains("mullirim visit") && all.contains("mullirim sums"));
+    for command in ["visit", "sums", "suffix"] {
+        assert!(all.contains(&format!("  mullirim {command} ")));
+    }
     assert_eq!(folder.done(&["fly", "--help"]), all);
     let visit = folder.done(&["visit", "--help"]);
     assert!(visit.starts_with("mullirim visit: a technician's visit"));
@@ -21,7 +23,14 @@ fn help_is_shown_everywhere() {
     assert_eq!(folder.done(&["sums", "a", "b", "--help"]), sums);
     let flags = ["--image", "--split", "--compare", "--json", "--help"];
     assert!(flags.iter().all(|flag| sums.contains(flag)));
-    for text in [all, visit, sums] {
+    let suffix = folder.done(&["suffix", "--help"]);
+    assert!(suffix.starts_with("mullirim suffix: the last 16 bytes of DFU files"));
+    assert_eq!(folder.done(&["suffix", "add", "-o", "--help"]), suffix);
+    let words = ["show", "check", "add", "--device", "--product", "--vendor"];
+    let more = ["-o", "--json", "--help", "64 MiB"];
+    let mut words = words.iter().chain(&more);
+    assert!(words.all(|word| suffix.contains(word)));
+    for text in [all, visit, sums, suffix] {
         assert!(text.lines().all(|line| line.len() < 80), "{text}");
         assert!(text.contains("Exit: 0 done"));
     }
