@@ -2,3 +2,4 @@
 pub mod Laws
 pub mod Ends
 pub mod Theorems
+pub mod Examples
