@@ -11,7 +11,7 @@ use Rattle.suffix.specs.declared.Parts.{Parts}
 use Rattle.suffix.specs.declared.Reading.{Reading}
 use Rattle.suffix.specs.declared.Reading.the-variants.{Suffixed, Short, Signature, Length, Version, Sum}
 use Rattle.suffix.specs.declared.Writing.{Writing}
-use Rattle.suffix.specs.Suffix.{refusalNumber, Left, left, writeOf}
+use Rattle.suffix.specs.Suffix.{Left, left, writeOf}
 use Rattle.files.specs.Files.{refusedBy, toldRead, toldWritten, atHost, suffixWritten}
 
 -- every reading but the first is heard by its number

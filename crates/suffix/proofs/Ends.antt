@@ -1,14 +1,13 @@
 -- A file and 16 bytes behind it: what each test of the reader tells of them. Assumes nothing.
-use Prim.Native.Nat.{ℕ, zero, suc, _+_, _-_, _*_, _^_, _≤_, _<_}
-use mathlib.Core.Bool.{Bool, true, false, not, cond, _&&_, true≢false, false≢true}
+use Prim.Native.Nat.{ℕ, _+_, _-_, _*_, _^_, _<_}
+use mathlib.Core.Bool.{Bool, true, false, _&&_}
 use mathlib.Core.List.{List, [], _∷_, _++_, append-assoc}
 use mathlib.Core.Path.{_≡_, refl, sym, ap, ap₂, _∙_, subst}
-use native.Mathlib.Decide.{decLt}
 use native.Mathlib.Omega.{arith}
-use borrow.Author.Tests.{eqb-true, eq-eqb, le-ltb}
-use lib.Dec.{eqb, ltb}
-use lib.ListN.{length, getD, take, drop, length-append, length-take, List·getD-eq-default}
-use lib.Seq.{getD-take, getD-append-add, take-append-add, drop-append-add}
+use borrow.Author.Tests.{le-ltb}
+use lib.Dec.{eqb}
+use lib.ListN.{length, getD, take, drop, length-append}
+use lib.Seq.{getD-append-add, take-append-add, drop-append-add}
 use Rattle.numbers.specs.Numbers.{wordAt, longAt, bytes2, bytes4}
 use Rattle.numbers.proofs.Laws.{four-bytes, word-on, long-on, of-two-bytes, of-four-bytes}
 use Rattle.crc.specs.Crc.{crcOf}
@@ -16,69 +15,11 @@ use Rattle.crc.proofs.Laws.{crc-of-fits}
 use Rattle.suffix.specs.declared.Parts.{Parts}
 use Rattle.suffix.specs.declared.Reading.{Reading}
 use Rattle.suffix.specs.declared.Reading.the-variants.{Suffixed, Short, Signature, Length, Version, Sum}
-use Rattle.suffix.specs.Suffix.{suffixSize, dfuVersion, frontOf, sumBytes, suffixed, signedAt, sizedAt, versionedAt, summedAt, partsAt}
-use Rattle.suffix.specs.Suffix.{judged, readOf, refusalNumber}
-use Rattle.suffix.specs.Claims.{Bytes, Fits, field, LongEnough, Signed, Sized, Versioned, Summed, FileWith, Says}
-
--- ---- a test that tells whether something holds
-
-pub record Tells (t : Bool) (A : Type 0) : Type 0 where
-  pub yes : t ≡ true → A
-  pub is : A → t ≡ true
-
-pub tells-no : (t : Bool) (A : Type 0) → Tells t A → t ≡ false → A → ⊥
-tells-no t A tells e a = true≢false (sym (tells .is a) ∙ e)
-
-pub isnt : (t : Bool) (A : Type 0) → Tells t A → (A → ⊥) → t ≡ false
-isnt true A tells n = absurd (n (tells .yes refl))
-isnt false A tells n = refl
-
-both : (s t : Bool) (A B : Type 0) → Tells s A → Tells t B → Tells (s && t) (A × B)
-both true t A B f g = record { yes = λ e. (f .yes refl, g .yes e); is = λ x. g .is (x .1) }
-both false t A B f g = record { yes = λ e. absurd (false≢true e); is = λ x. f .is (x .0) }
-
-equal : (n m : ℕ) → Tells (eqb n m) (n ≡ m)
-equal n m = record { yes = eqb-true n m; is = eq-eqb n m }
-
--- what tells of one thing tells of another that comes to the same
-alike : (t : Bool) (A B : Type 0) → (A → B) → (B → A) → Tells t A → Tells t B
-alike t A B f g tells = record { yes = λ e. f (tells .yes e); is = λ b. tells .is (g b) }
-
-either-way : {A : Type 0} (t : Bool) → (t ≡ true → A) → (t ≡ false → A) → A
-either-way true f g = f refl
-either-way false f g = g refl
-
--- ---- a list of so many numbers, one by one
-
-abbrev pub ForAll : ℕ → (List ℕ → Type 0) → Type 0
-ForAll zero P = P []
-ForAll (suc n) P = (x : ℕ) → ForAll n (λ (l : List ℕ). P (x ∷ l))
-
-pub one-by-one : (n : ℕ) (P : List ℕ → Type 0) → ForAll n P → (l : List ℕ) → length l ≡ n → P l
-one-by-one zero P f [] h = f
-one-by-one zero P f (x ∷ l) h = absurd (omega arith)
-one-by-one (suc n) P f [] h = absurd (omega arith)
-one-by-one (suc n) P f (x ∷ l) h = one-by-one n (λ (t : List ℕ). P (x ∷ t)) (f x) l (omega arith)
-
--- ---- lists of bytes
-
-bytes-cons : (x : ℕ) (xs : List ℕ) → x < 256 → Bytes xs → Bytes (x ∷ xs)
-bytes-cons x xs h b zero = h
-bytes-cons x xs h b (suc i) = b i
-
-pub bytes-append : (xs ys : List ℕ) → Bytes xs → Bytes ys → Bytes (xs ++ ys)
-bytes-append [] ys b c = c
-bytes-append (x ∷ xs) ys b c = bytes-cons x (xs ++ ys) (b 0) (bytes-append xs ys (λ i. b (suc i)) c)
-
-pub bytes-take : (xs : List ℕ) (n : ℕ) → Bytes xs → Bytes (take n xs)
-bytes-take xs n b i =
-    elim (decLt i n) [
-      | yes l ↦ subst (λ (x : ℕ). x < 256) (sym (getD-take n xs i 0 l)) (b i)
-      | no l ↦
-          subst (λ (x : ℕ). x < 256) (sym (List·getD-eq-default (take n xs) 0 (omega (arith, length-take n xs)))) (omega arith)
-    ]
-
--- ---- 16 bytes behind a file
+use Rattle.suffix.specs.Suffix.{suffixSize, dfuVersion, frontOf, sumBytes, suffixed}
+use Rattle.suffix.specs.Suffix.{signedAt, sizedAt, versionedAt, summedAt, partsAt, judged, readOf, refusalNumber}
+use Rattle.suffix.specs.Claims.{Bytes, field, LongEnough, Signed, Sized, Versioned, Summed, FileWith, Says}
+use Rattle.suffix.proofs.Lists.{bytes-take}
+use Rattle.suffix.proofs.Tests.{Tells, tells-no, isnt, both, equal, alike, either-way}
 
 module _ (file : List ℕ) (x0 x1 x2 x3 x4 x5 x6 x7 x8 x9 x10 x11 x12 x13 x14 x15 : ℕ) where
   abbrev pub front : List ℕ

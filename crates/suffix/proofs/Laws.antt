@@ -9,7 +9,7 @@ use lib.Seq.{take-all, take-length, drop-drop, take-append-seam, drop-append-add
 use borrow.Author.Tests.{lt-ltb, le-ltb}
 use Rattle.suffix.specs.declared.Parts.{Parts}
 use Rattle.suffix.specs.declared.Writing.the-variants.{Wrote, NoRoom}
-use Rattle.suffix.specs.Suffix.{suffixSize, frontSize, frontOf, sumBytes, suffixed, replaced, sizeWith, laid, left, writeOf}
+use Rattle.suffix.specs.Suffix.{frontSize, frontOf, sumBytes, suffixed, replaced, sizeWith, laid, left, writeOf}
 
 -- a negated answer tells of the test that it is promised to be
 pub told-not : (r t v : Bool) → r ≡ t → not r ≡ v → not t ≡ v

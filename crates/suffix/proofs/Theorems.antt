@@ -6,7 +6,7 @@ use native.Mathlib.Decide.{decLt}
 use native.Mathlib.Nat.{mod-lt}
 use native.Mathlib.Omega.{arith}
 use borrow.Author.Tests.{lt-ltb, eq-eqb}
-use lib.ListN.{length, getD, take, drop, length-append, length-drop, take-append-drop}
+use lib.ListN.{length, take, drop, length-append, length-drop, take-append-drop}
 use lib.Seq.{take-append-seam, take-at}
 use Rattle.numbers.specs.Numbers.{bytes2, bytes4}
 use Rattle.numbers.proofs.Laws.{two-bytes, four-bytes}
@@ -22,7 +22,8 @@ use Rattle.suffix.specs.Suffix.{sizeWith, laid, Left, left, writeOf}
 use Rattle.suffix.specs.Claims.{Bytes, Fits, LongEnough, FileWith, Says, AcceptsExactly, OneReader, WritesExactly, OneWriter}
 use Rattle.suffix.specs.Claims.{ReadWritten, WriteRead, OneSuffix, OneOutcome}
 use Rattle.suffix.proofs.Laws.{no-room, room}
-use Rattle.suffix.proofs.Ends.{one-by-one, bytes-append, bytes-take, whole, at-suffixed, says-here, refused-here}
+use Rattle.suffix.proofs.Lists.{one-by-one, bytes-append, bytes-take}
+use Rattle.suffix.proofs.Ends.{whole, at-suffixed, says-here, refused-here}
 
 -- ---- any bytes: too few, or a file and 16 bytes behind it
 

@@ -8,7 +8,6 @@ use Rattle.crc.specs.Crc.{crcOf}
 use Rattle.suffix.specs.declared.Parts.{Parts}
 use Rattle.suffix.specs.declared.Reading.{Reading}
 use Rattle.suffix.specs.declared.Reading.the-variants.{Suffixed, Short, Signature, Length, Version, Sum}
-use Rattle.suffix.specs.declared.Writing.{Writing}
 use Rattle.suffix.specs.declared.Writing.the-variants.{Wrote, NoRoom}
 use Rattle.suffix.specs.Suffix.{suffixed, readOf, Left, left, writeOf}
 

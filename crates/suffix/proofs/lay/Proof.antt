@@ -36,14 +36,15 @@ same-length c = search needs
 
 returns : tie.Need-returns
 returns c =
-    let second = c .before .before .before .before .before .before .before in
+    let third = c .before .before in
+    let second = third .before .before .before .before .before in
     let first = second .before .before .before .before .before in
     laid-by _ _ _ _ _ _ _ _
     (first .before .before .before .before .front .ensures)
     (first .before .before .sum-bytes .ensures)
     (first .put .ensures)
     (second .put2 .ensures)
-    (c .before .before .put3 .ensures)
+    (third .put3 .ensures)
 
 pub lay-spec : {M : Type 1} → statement M
 lay-spec =

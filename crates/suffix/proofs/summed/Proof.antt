@@ -1,6 +1,6 @@
 -- The number at the end, and the sum of all before it. Assumes nothing.
 use lib.Dec.{eqb}
-use mathlib.Core.Path.{ap₂, _∙_}
+use mathlib.Core.Path.{ap₂}
 use native.Mathlib.Nat.{sub-zero}
 use borrow.Author.Needs.{needs}
 use Rattle.suffix.proofs.summed.Statement.{statement}
