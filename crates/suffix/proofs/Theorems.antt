@@ -210,4 +210,8 @@ one-suffix bytes other p n m b c e f h =
 
 pub one-outcome : OneOutcome
 one-outcome =
-    record { read = λ bytes r s e f. e ∙ sym f; write = λ file p buffer l m e f. e ∙ sym f }
+    record {
+      meaning = λ bytes b r s g h. sym (given bytes b r g) ∙ given bytes b s h;
+      read = λ bytes r s e f. e ∙ sym f;
+      write = λ file p buffer l m e f. e ∙ sym f;
+    }

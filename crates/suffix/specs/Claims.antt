@@ -104,8 +104,9 @@ OneSuffix read =
     (bytes other : List ℕ) (p : Parts) (n m : ℕ) → Bytes bytes → Bytes other → read bytes ≡ Suffixed p n
     → read other ≡ Suffixed p m → take n bytes ≡ take m other → bytes ≡ other
 
--- no second outcome fits what the two calls promise, on the refused inputs too
+-- no second outcome fits what the two calls promise, on the refused inputs too; and no two readings are true of the same bytes
 pub record OneOutcome : Type 0 where
+  pub meaning : (bytes : List ℕ) → Bytes bytes → (r s : Reading) → Says r bytes → Says s bytes → r ≡ s
   pub read : (bytes : List ℕ) (r s : Reading) → r ≡ readOf bytes → s ≡ readOf bytes → r ≡ s
   pub write :
       (file : List ℕ) (p : Parts) (buffer : List ℕ) (l m : Left) → l ≡ writeOf file p buffer → m ≡ writeOf file p buffer
