@@ -1,5 +1,6 @@
 //! The second loader, and the calls to try both loaders with; the second reader
-//! and writer of a file's suffix; and the structs of the C headers.
+//! and writer of a file's suffix, and the files to try them with; and the structs
+//! of the C headers.
 
 pub mod dice;
 pub mod histories;

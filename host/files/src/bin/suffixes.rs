@@ -2,24 +2,12 @@
 //! ones, file by file: all that a call hands back, and every byte of the buffer.
 //! The first difference ends the run.
 
-#[path = "suffixes/cases.rs"]
-mod cases;
 #[path = "suffixes/compare.rs"]
 mod compare;
-#[path = "suffixes/files.rs"]
-mod files;
-#[path = "suffixes/reading.rs"]
-mod reading;
-#[path = "suffixes/rows.rs"]
-mod rows;
-#[path = "suffixes/seen.rs"]
-mod seen;
 #[path = "suffixes/tally.rs"]
 mod tally;
-#[path = "suffixes/writing.rs"]
-mod writing;
 
-use cases::Case;
+use mullirim_host::suffix::cases::Case;
 use std::process::ExitCode;
 use tally::Tally;
 
