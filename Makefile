@@ -53,7 +53,7 @@ build/libboard.a: $(SOURCES) tools/library
 
 # The board in forty lines, on the library as it ships. What it must print is what the second loader makes of the same transfers.
 example: build/libboard.a
-	tools/shipped build/example examples/board.c
+	tools/shipped board build/example examples/board.c
 	tools/run build/example > build/example.out
 	$(HOST) example | cmp - build/example.out
 
@@ -79,10 +79,12 @@ faults: build/libboard.a
 	tools/faults > build/faults.said
 	@cat build/faults.said
 
-# The same kind of histories from C, on the library as it ships, each buffer beside pages that trap.
+# The same kind of histories and files from C, on the libraries as they ship, each buffer beside pages that trap.
 replay: build/libboard.a
-	tools/shipped build/replay tests/replay.c
+	tools/shipped board build/replay tests/replay.c
 	$(HOST) record -- 20261116 1200 | tools/run build/replay > build/replay.said || { cat build/replay.said; false; }
+	tools/shipped files build/replay_files tests/replay_files.c
+	$(HOST) record_files -- 20261116 20000 | tools/run build/replay_files >> build/replay.said || { cat build/replay.said; false; }
 	@cat build/replay.said
 
 # And under AddressSanitizer and UndefinedBehaviorSanitizer, which must speak up where a board breaks its word.
@@ -92,6 +94,8 @@ checked: build/libboard.a
 	$(HOST) example | cmp - build/checked/example.out
 	$(CC) $(CHECKED) tests/replay.c build/checked/libboard.a -o build/checked/replay
 	$(HOST) record -- 20261117 300 | build/checked/replay > build/checked.said || { cat build/checked.said; false; }
+	$(CC) $(CHECKED) tests/replay_files.c build/checked/libfiles.a -o build/checked/replay_files
+	$(HOST) record_files -- 20261117 20000 | build/checked/replay_files >> build/checked.said || { cat build/checked.said; false; }
 	@cat build/checked.said
 	$(CC) $(CHECKED) tests/liar.c build/checked/libboard.a -o build/checked/liar
 	! build/checked/liar read 2> build/checked/liar.said

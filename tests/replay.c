@@ -6,85 +6,16 @@
  *   'R' session; lengths of flash, setup, data and reply (32 bits each), setup, data;
  *       answer (8 bits), count (32 bits), as many bytes of reply, session, change: place, length (32 bits each) and bytes
  *   'E' the number of all requests (32 bits)
- *
- * What a call is lent stands alone: beside pages that trap on any touch, at one call right before the upper one and at the next right
- * behind the lower one; or, built with CHECKED for AddressSanitizer, in a heap block of just that size.
  */
 #define _DEFAULT_SOURCE
-#include <stdio.h>
-#include <stdlib.h>
-#include <string.h>
-#include <sys/mman.h>
+#define PLAYED "request"
+#include "lent.h"
 #include "mullirim.h"
 
-enum { ROOM = (MULLIRIM_MOST_BLOCKS + 1) * MULLIRIM_BLOCK, REPLY = 2 * MULLIRIM_REPLY_ROOM, SETUP = 16, DATA = 65536, GUARD = 65536 };
+enum { ROOM = (MULLIRIM_MOST_BLOCKS + 1) * MULLIRIM_BLOCK, REPLY = 2 * MULLIRIM_REPLY_ROOM, SETUP = 16, DATA = 65536 };
 
-static uint32_t requests, wide;
+static uint32_t wide;
 static uint8_t flash[ROOM], reply[REPLY], setup[SETUP], data[DATA];
-
-static void fail(const char *what)
-{
-    printf("request %u: %s\n", (unsigned)requests, what);
-    exit(1);
-}
-
-static void read_bytes(void *to, size_t len)
-{
-    if (fread(to, 1, len, stdin) != len)
-        fail("the recording ends early");
-}
-
-static uint32_t read_number(size_t most)
-{
-    uint8_t b[4];
-
-    read_bytes(b, 4);
-    uint32_t n = b[0] | (uint32_t)b[1] << 8 | (uint32_t)b[2] << 16 | (uint32_t)b[3] << 24;
-    if (n > most)
-        fail("the recording has a number out of bounds");
-    return n;
-}
-
-/* A place of its own for what is lent, with a copy of what it holds. */
-struct loan {
-    uint8_t *pages, *at;
-};
-
-static uint8_t *lend(struct loan *l, const void *from, size_t len)
-{
-#ifdef CHECKED
-    l->at = malloc(len ? len : 1);
-    if (!l->at)
-        fail("no memory");
-    if (!len)
-        l->at++;
-#else
-    enum { SPAN = (ROOM + DATA) / GUARD * GUARD + GUARD };
-    if (!l->pages) {
-        l->pages = mmap(NULL, SPAN + 2 * GUARD, PROT_NONE, MAP_PRIVATE | MAP_ANONYMOUS, -1, 0);
-        if (l->pages == MAP_FAILED || mprotect(l->pages + GUARD, SPAN, PROT_READ | PROT_WRITE))
-            fail("no memory");
-    }
-    l->at = l->pages + GUARD + (requests % 2 ? 0 : SPAN - len);
-#endif
-    memcpy(l->at, from, len);
-    return l->at;
-}
-
-/* What was lent to be read only must come back as it went. */
-static void same_loan(const struct loan *l, const void *lent, size_t len)
-{
-    if (memcmp(l->at, lent, len))
-        fail("setup or data was written to");
-}
-
-static void give_back(struct loan *l, void *to, size_t len)
-{
-    memcpy(to, l->at, len);
-#ifdef CHECKED
-    free(len ? l->at : l->at - 1);
-#endif
-}
 
 /* Field by field, since padding may hold anything. */
 static void same_session(const struct mullirim_session *s)
@@ -149,7 +80,7 @@ static void play_request(void)
     static struct loan s, f, u, d, r;
     struct mullirim_session session;
 
-    requests++;
+    played++;
     read_bytes(&session, sizeof session);
     size_t flash_len = read_number(ROOM), setup_len = read_number(SETUP), data_len = read_number(DATA), reply_len = read_number(REPLY);
     read_bytes(setup, setup_len);
@@ -157,12 +88,10 @@ static void play_request(void)
     struct mullirim_session *lent = (void *)lend(&s, &session, sizeof session);
     struct mullirim_answer a = mullirim_request(lent, lend(&f, flash, flash_len), flash_len, lend(&u, setup, setup_len), setup_len,
                                                 lend(&d, data, data_len), data_len, lend(&r, reply, reply_len), reply_len);
-    same_loan(&u, setup, setup_len);
-    same_loan(&d, data, data_len);
     give_back(&s, &session, sizeof session);
     give_back(&f, flash_after, flash_len);
-    give_back(&u, setup, setup_len);
-    give_back(&d, data, data_len);
+    same_back(&u, setup, setup_len);
+    same_back(&d, data, data_len);
     give_back(&r, reply_after, reply_len);
     same_outcome(a, &session, flash_after, flash_len, reply_after, reply_len);
 }
@@ -179,9 +108,9 @@ int main(void)
         else
             fail("the recording has no such part");
     }
-    if (read_number(UINT32_MAX) != requests || getchar() != EOF)
+    if (read_number(UINT32_MAX) != played || getchar() != EOF)
         fail("the recording does not end as it says");
-    printf("%u requests after %u starts (%u with A or B over 65,535) replayed: all as recorded\n", (unsigned)requests, (unsigned)starts,
+    printf("%u requests after %u starts (%u with A or B over 65,535) replayed: all as recorded\n", (unsigned)played, (unsigned)starts,
            (unsigned)wide);
     return 0;
 }

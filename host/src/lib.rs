@@ -1,6 +1,8 @@
 //! The second loader, and the calls to try both loaders with; the second reader
-//! and writer of a file's suffix; and the structs of the C headers.
+//! and writer of a file's suffix, and the files to try them with; what the
+//! comparisons share; and the structs of the C headers.
 
+pub mod comparison;
 pub mod dice;
 pub mod histories;
 pub mod layout;

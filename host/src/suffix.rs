@@ -1,9 +1,17 @@
 //! A second reader and writer of the DFU file suffix, written from the paper of
 //! further requests (Wish 1) alone. They are kept as plain as can be, because
 //! their only use is to disagree with the proved ones wherever one of the two
-//! misreads the paper.
+//! misreads the paper. Below them: the files to try both with, and the rows of
+//! the paper that these must meet.
 
-use crate::layout::Parts;
+pub mod cases;
+mod files;
+mod reading;
+pub mod rows;
+pub mod seen;
+mod writing;
+
+use crate::layout::{Parts, SuffixRead, Written};
 use crate::second::sum;
 
 /// The bytes of a suffix.
@@ -65,6 +73,33 @@ pub fn write(file: &[u8], parts: Parts, buffer: &mut [u8]) -> Option<usize> {
     all.extend(sum(&all).to_le_bytes());
     buffer[..count].copy_from_slice(&all);
     Some(count)
+}
+
+/// As the call for C must hand it back.
+impl From<Result<(Parts, usize), u16>> for SuffixRead {
+    fn from(read: Result<(Parts, usize), u16>) -> SuffixRead {
+        let nothing = Parts {
+            device: 0,
+            product: 0,
+            vendor: 0,
+        };
+        let (parts, length) = read.unwrap_or((nothing, 0));
+        SuffixRead {
+            parts,
+            refused: read.err().unwrap_or(0),
+            length,
+        }
+    }
+}
+
+/// The same for writing, whose one refusal is numbered 1.
+impl From<Option<usize>> for Written {
+    fn from(written: Option<usize>) -> Written {
+        Written {
+            refused: u32::from(written.is_none()),
+            count: written.unwrap_or(0),
+        }
+    }
 }
 
 fn number(bytes: &[u8]) -> u16 {

@@ -2,6 +2,7 @@
 //! the PROG header that would load it, as other tools and uploads write it. The
 //! suffix is read by the proved call.
 
+use crate::screen::{counted, grouped};
 use crate::suffix::{for_whom, why};
 use mullirim_files::suffix::{read, Parts, Refusal, SIZE};
 use mullirim_host::second::command;
@@ -14,12 +15,22 @@ pub const MOST_BYTES: usize = command::LENGTH + SIZE;
 const FIXED: [u8; 6] = [0x00, 0x01, 0x55, 0x46, 0x44, 0x10];
 const FIXED_PLACE: usize = 6;
 
-/// What was taken off an image.
+/// What was taken off an image, and what was not though it looks like it.
 #[derive(Clone, Copy, Debug, PartialEq)]
 pub struct Wrapping {
     pub suffix: Option<Parts>,
     /// The block for which a PROG header was.
     pub header: Option<u16>,
+    pub misfit: Option<Misfit>,
+}
+
+/// The beginning of an image that would be a PROG header for its place, if as
+/// many bytes stood behind it as it tells of.
+#[derive(Clone, Copy, Debug, PartialEq)]
+pub struct Misfit {
+    block: u16,
+    told: usize,
+    behind: usize,
 }
 
 impl Wrapping {
@@ -32,7 +43,24 @@ impl Wrapping {
         if let Some(block) = self.header {
             lines.push(format!("PROG header taken off: it is for block {block}"));
         }
+        lines.extend(self.misfit.iter().flat_map(Misfit::told));
         lines
+    }
+}
+
+impl Misfit {
+    /// Two lines, since one would be too long for a narrow screen.
+    fn told(&self) -> [String; 2] {
+        let Misfit {
+            block,
+            told,
+            behind,
+        } = self;
+        let (told, behind) = (counted(*told, "byte"), grouped(*behind));
+        [
+            format!("begins like a PROG header for block {block}: taken as part of the image"),
+            format!("it tells of {told}, but has {behind} behind it"),
+        ]
     }
 }
 
@@ -41,14 +69,19 @@ impl Wrapping {
 pub fn taken_off(file: &[u8], first: u16) -> Result<(&[u8], Wrapping), String> {
     let (inside, suffix) = without_suffix(file)?;
     let (image, header) = without_header(inside, first)?;
-    Ok((image, Wrapping { suffix, header }))
+    let wrapping = Wrapping {
+        suffix,
+        header,
+        misfit: misfit(inside, first),
+    };
+    Ok((image, wrapping))
 }
 
 /// A flash file holds what stands in flash, and nothing is taken off it.
 pub fn none_around(flash: &[u8]) -> Result<(), String> {
     let found = if ends_in_suffix(flash) {
         "ends in a DFU suffix, whose 16 bytes would be taken for firmware"
-    } else if header(flash).is_some() {
+    } else if header(flash).is_some_and(|header| header.fits()) {
         "begins with a PROG header, whose 8 bytes would shift the firmware"
     } else {
         return Ok(());
@@ -136,22 +169,48 @@ fn suffix_is_elsewhere(file: &[u8]) -> bool {
 }
 
 fn without_header(bytes: &[u8], first: u16) -> Result<(&[u8], Option<u16>), String> {
-    match header(bytes) {
+    match header(bytes).filter(Header::fits) {
         None => Ok((bytes, None)),
-        Some((block, image)) if block == first => Ok((image, Some(block))),
-        Some((block, _)) => Err(format!(
+        Some(header) if header.block == first => Ok((header.behind, Some(first))),
+        Some(Header { block, .. }) => Err(format!(
             "its PROG header is for block {block}, and the application starts at block {first}; \
              the file was made for another place"
         )),
     }
 }
 
-/// The block of a header and the bytes behind it, which are as many as it says.
-fn header(bytes: &[u8]) -> Option<(u16, &[u8])> {
-    let ([command, _, low, high, length @ ..], rest) =
+fn misfit(bytes: &[u8], first: u16) -> Option<Misfit> {
+    let header = header(bytes).filter(|header| header.block == first && !header.fits())?;
+    Some(Misfit {
+        block: first,
+        told: header.told,
+        behind: header.behind.len(),
+    })
+}
+
+/// What reads as a PROG header: its block, how many bytes it tells of, and those
+/// that stand behind it.
+struct Header<'a> {
+    block: u16,
+    told: usize,
+    behind: &'a [u8],
+}
+
+impl Header<'_> {
+    /// Without this, any bytes that begin with a 1 would be a header.
+    fn fits(&self) -> bool {
+        self.told == self.behind.len()
+    }
+}
+
+fn header(bytes: &[u8]) -> Option<Header<'_>> {
+    let ([command, _, low, high, length @ ..], behind) =
         bytes.split_first_chunk::<{ command::LENGTH }>()?;
-    let fits = u32::from_le_bytes(*length) as usize == rest.len();
-    (*command == command::PROG && fits).then_some((u16::from_le_bytes([*low, *high]), rest))
+    (*command == command::PROG).then_some(Header {
+        block: u16::from_le_bytes([*low, *high]),
+        told: u32::from_le_bytes(*length) as usize,
+        behind,
+    })
 }
 
 #[cfg(test)]
@@ -183,6 +242,15 @@ mod tests {
         [&tape::header(1, block, length)[..], image].concat()
     }
 
+    fn wrapping(suffix: Option<Parts>, header: Option<u16>) -> Wrapping {
+        let misfit = None;
+        Wrapping {
+            suffix,
+            header,
+            misfit,
+        }
+    }
+
     fn taken(file: &[u8]) -> (Vec<u8>, Wrapping) {
         let (image, wrapping) = taken_off(file, 16).unwrap();
         (image.to_vec(), wrapping)
@@ -201,7 +269,7 @@ mod tests {
     #[test]
     fn a_right_suffix_comes_off() {
         let (suffix, header) = (Some(PARTS), None);
-        let wrapping = Wrapping { suffix, header };
+        let wrapping = wrapping(suffix, header);
         for firmware in [&FIRMWARE[..], &[], b"UFD", &[0xFF; 16]] {
             let file = suffixed(firmware);
             assert_eq!(taken(&file), (firmware.to_vec(), wrapping));
@@ -216,7 +284,7 @@ mod tests {
     #[test]
     fn plain_bytes_stay_as_they_are() {
         let (suffix, header) = (None, None);
-        let wrapping = Wrapping { suffix, header };
+        let wrapping = wrapping(suffix, header);
         let ends: [&[u8]; 5] = [&[], &[7; 15], &[0; 16], &[0xFF; 40], b"0123456701UF89ab"];
         for end in ends {
             let file = [&FIRMWARE[..], end].concat();
@@ -322,7 +390,7 @@ mod tests {
     #[test]
     fn a_header_for_this_place_comes_off() {
         let (suffix, header) = (None, Some(16));
-        let wrapping = Wrapping { suffix, header };
+        let wrapping = wrapping(suffix, header);
         let mut file = headed(16, 100, &FIRMWARE);
         assert_eq!(taken(&file), (FIRMWARE.to_vec(), wrapping));
         file[1] = 0xEE;
@@ -350,25 +418,57 @@ mod tests {
     }
 
     #[test]
-    fn what_only_begins_like_a_header_is_plain() {
-        for length in [0, 99, 101, 108, 116, 100 << 8, u32::MAX] {
-            let file = headed(16, length, &FIRMWARE);
-            assert_eq!(taken(&file).0, file);
-            assert_eq!(taken(&suffixed(&file)).0, file);
+    fn what_only_begins_like_a_header_is_plain_and_told() {
+        let begins = "begins like a PROG header for block 16: taken as part of the image";
+        for (length, lengths) in [
+            (0, "0 bytes, but has 100"),
+            (1, "1 byte, but has 100"),
+            (99, "99 bytes, but has 100"),
+            (101, "101 bytes, but has 100"),
+            (108, "108 bytes, but has 100"),
+            (25_600, "25,600 bytes, but has 100"),
+            (u32::MAX, "4,294,967,295 bytes, but has 100"),
+        ] {
+            let lines = [begins, &format!("it tells of {lengths} behind it")];
+            let mut file = headed(16, length, &FIRMWARE);
+            file[1] = length as u8;
+            let (image, wrapping) = taken(&file);
+            assert_eq!((&image, wrapping.header), (&file, None));
+            assert_eq!(wrapping.told(), lines);
+            let (image, wrapping) = taken(&suffixed(&file));
+            assert_eq!(image, file);
+            assert_eq!(wrapping.told()[2..], lines);
         }
-        let mut file = headed(16, 100, &FIRMWARE);
-        for command in [0, 2, 0x81] {
-            file[0] = command;
-            assert_eq!(taken(&file).0, file);
+        // The suffix is not among the bytes behind it.
+        let (_, wrapping) = taken(&suffixed(&headed(16, 116, &FIRMWARE)));
+        let lengths = "it tells of 116 bytes, but has 100 behind it";
+        assert_eq!(wrapping.told()[3], lengths);
+        let (_, wrapping) = taken(&headed(16, 9, &[]));
+        let lengths = "it tells of 9 bytes, but has 0 behind it";
+        assert_eq!(wrapping.told(), [begins, lengths]);
+    }
+
+    #[test]
+    fn what_begins_like_none_for_this_place_is_plain() {
+        for block in [0, 15, 17, 16 << 8, 0xFFFF] {
+            let file = headed(block, 99, &FIRMWARE);
+            assert_eq!(taken(&file), (file, wrapping(None, None)));
+        }
+        for length in [99, 100] {
+            let mut file = headed(16, length, &FIRMWARE);
+            for command in [0, 2, 0x81] {
+                file[0] = command;
+                assert_eq!(taken(&file), (file.clone(), wrapping(None, None)));
+            }
         }
         let short = [1, 0, 16, 0, 0, 0, 0];
-        assert_eq!(taken(&short).0, short);
+        assert_eq!(taken(&short), (short.to_vec(), wrapping(None, None)));
     }
 
     #[test]
     fn both_come_off_with_the_suffix_first() {
         let (suffix, header) = (Some(PARTS), Some(16));
-        let wrapping = Wrapping { suffix, header };
+        let wrapping = wrapping(suffix, header);
         let file = suffixed(&headed(16, 100, &FIRMWARE));
         assert_eq!(taken(&file), (FIRMWARE.to_vec(), wrapping));
         assert_eq!(wrapping.told().len(), 3);

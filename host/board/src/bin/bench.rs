@@ -1,4 +1,4 @@
-//! Times the proved loader beside plain Rust and, for the sums, beside zlib.
+//! Times the proved calls beside plain Rust and, for the sums, beside zlib.
 //! Before anything is timed, both sides must have come to the same result.
 
 #[path = "bench/clock.rs"]
@@ -13,6 +13,8 @@ mod question;
 mod refresh;
 #[path = "bench/search.rs"]
 mod search;
+#[path = "bench/suffix.rs"]
+mod suffix;
 #[path = "bench/sums.rs"]
 mod sums;
 #[path = "bench/zlib.rs"]
@@ -46,6 +48,7 @@ fn main() -> ExitCode {
         search::compare,
         refresh::compare,
         question::compare,
+        suffix::compare,
     ];
     for compare in comparisons {
         match compare() {

@@ -22,6 +22,8 @@ mod unfit;
 mod uploads;
 
 use compare::Pair;
+use mullirim_host::comparison::Place::{Number, Switch};
+use mullirim_host::comparison::{begin, finish, read};
 use std::process::ExitCode;
 use std::time::{Duration, Instant};
 use tally::Tally;
@@ -43,18 +45,7 @@ struct Asked {
 }
 
 fn main() -> ExitCode {
-    let words: Vec<String> = std::env::args().skip(1).collect();
-    if words.iter().any(|word| word == "--help") {
-        println!("{HELP}");
-        return ExitCode::SUCCESS;
-    }
-    match asked_in(&words) {
-        Ok(asked) => run(&asked),
-        Err(word) => {
-            eprintln!("differ: {word}\n{HELP}");
-            ExitCode::from(2)
-        }
-    }
+    begin("differ", HELP, asked_in, run)
 }
 
 fn asked_in(words: &[String]) -> Result<Asked, String> {
@@ -65,25 +56,14 @@ fn asked_in(words: &[String]) -> Result<Asked, String> {
         soak: false,
         rows: false,
     };
-    let mut words = words.iter();
-    while let Some(word) = words.next() {
-        let place = match word.as_str() {
-            "--soak" => {
-                asked.soak = true;
-                continue;
-            }
-            "--rows" => {
-                asked.rows = true;
-                continue;
-            }
-            "--seed" => &mut asked.seed,
-            "--first" => &mut asked.first,
-            "--requests" => &mut asked.requests,
-            _ => return Err(format!("{word} is not known")),
-        };
-        let number = words.next().and_then(|number| number.parse().ok());
-        *place = number.ok_or(format!("{word} wants a number"))?;
-    }
+    let flags = vec![
+        ("--seed", Number(&mut asked.seed)),
+        ("--first", Number(&mut asked.first)),
+        ("--requests", Number(&mut asked.requests)),
+        ("--soak", Switch(&mut asked.soak)),
+        ("--rows", Switch(&mut asked.rows)),
+    ];
+    read(words, flags)?;
     Ok(asked)
 }
 
@@ -114,40 +94,29 @@ fn run(asked: &Asked) -> ExitCode {
             .rows()
             .for_each(|(name, count)| println!("{count:8} {name}"));
     }
-    finish(&tally)
-}
-
-/// A run that never met some row of the paper has compared too little.
-fn finish(tally: &Tally) -> ExitCode {
-    let missed = tally.missed();
-    if missed.is_empty() {
-        println!("{tally}");
-        return ExitCode::SUCCESS;
-    }
-    println!("no difference, but never met: {}", missed.join("; "));
-    ExitCode::FAILURE
+    finish(&tally, &tally.missed())
 }
 
 #[cfg(test)]
 mod tests {
     use super::*;
 
-    fn read(words: &[&str]) -> Result<Asked, String> {
-        let words: Vec<String> = words.iter().map(|word| word.to_string()).collect();
-        asked_in(&words)
+    fn asked(words: &str) -> Asked {
+        let words: Vec<String> = words.split(' ').map(str::to_string).collect();
+        asked_in(&words).ok().unwrap()
     }
 
     #[test]
     fn words_are_read() {
-        let asked = read(&["--seed", "7", "--soak", "--first", "9"])
-            .ok()
-            .unwrap();
-        assert_eq!((asked.seed, asked.first, asked.soak), (7, 9, true));
-        assert!(!asked.rows && read(&["--rows"]).is_ok_and(|asked| asked.rows));
-        assert_eq!(asked.requests, 450_000);
-        assert!(read(&["--seed"]).is_err_and(|word| word == "--seed wants a number"));
-        assert!(read(&["--requests", "x"]).is_err());
-        assert!(read(&["--sed", "7"]).is_err_and(|word| word == "--sed is not known"));
+        let some = asked("--seed 7 --soak --first 9");
+        assert_eq!((some.seed, some.first, some.soak), (7, 9, true));
+        assert_eq!((some.requests, some.rows), (450_000, false));
+        let others = asked("--requests 5 --rows");
+        assert_eq!((others.requests, others.rows), (5, true));
+        assert_eq!(
+            (others.seed, others.first, others.soak),
+            (20_261_115, 0, false)
+        );
     }
 
     #[test]

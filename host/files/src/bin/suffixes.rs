@@ -2,24 +2,14 @@
 //! ones, file by file: all that a call hands back, and every byte of the buffer.
 //! The first difference ends the run.
 
-#[path = "suffixes/cases.rs"]
-mod cases;
 #[path = "suffixes/compare.rs"]
 mod compare;
-#[path = "suffixes/files.rs"]
-mod files;
-#[path = "suffixes/reading.rs"]
-mod reading;
-#[path = "suffixes/rows.rs"]
-mod rows;
-#[path = "suffixes/seen.rs"]
-mod seen;
 #[path = "suffixes/tally.rs"]
 mod tally;
-#[path = "suffixes/writing.rs"]
-mod writing;
 
-use cases::Case;
+use mullirim_host::comparison::Place::{Number, Switch};
+use mullirim_host::comparison::{begin, finish, read};
+use mullirim_host::suffix::cases::Case;
 use std::process::ExitCode;
 use tally::Tally;
 
@@ -38,18 +28,7 @@ struct Asked {
 }
 
 fn main() -> ExitCode {
-    let words: Vec<String> = std::env::args().skip(1).collect();
-    if words.iter().any(|word| word == "--help") {
-        println!("{HELP}");
-        return ExitCode::SUCCESS;
-    }
-    match asked_in(&words) {
-        Ok(asked) => run(&asked),
-        Err(word) => {
-            eprintln!("suffixes: {word}\n{HELP}");
-            ExitCode::from(2)
-        }
-    }
+    begin("suffixes", HELP, asked_in, run)
 }
 
 fn asked_in(words: &[String]) -> Result<Asked, String> {
@@ -59,21 +38,13 @@ fn asked_in(words: &[String]) -> Result<Asked, String> {
         files: 120_000,
         rows: false,
     };
-    let mut words = words.iter();
-    while let Some(word) = words.next() {
-        let place = match word.as_str() {
-            "--rows" => {
-                asked.rows = true;
-                continue;
-            }
-            "--seed" => &mut asked.seed,
-            "--first" => &mut asked.first,
-            "--files" => &mut asked.files,
-            _ => return Err(format!("{word} is not known")),
-        };
-        let number = words.next().and_then(|number| number.parse().ok());
-        *place = number.ok_or(format!("{word} wants a number"))?;
-    }
+    let flags = vec![
+        ("--seed", Number(&mut asked.seed)),
+        ("--first", Number(&mut asked.first)),
+        ("--files", Number(&mut asked.files)),
+        ("--rows", Switch(&mut asked.rows)),
+    ];
+    read(words, flags)?;
     Ok(asked)
 }
 
@@ -91,39 +62,25 @@ fn run(asked: &Asked) -> ExitCode {
             .rows()
             .for_each(|(name, count)| println!("{count:8} {name}"));
     }
-    finish(&tally)
-}
-
-/// A run that never met some row of the paper has compared too little.
-fn finish(tally: &Tally) -> ExitCode {
-    let missed = tally.missed();
-    if missed.is_empty() {
-        println!("{tally}");
-        return ExitCode::SUCCESS;
-    }
-    println!("no difference, but never met: {}", missed.join("; "));
-    ExitCode::FAILURE
+    finish(&tally, &tally.missed())
 }
 
 #[cfg(test)]
 mod tests {
     use super::*;
 
-    fn read(words: &[&str]) -> Result<Asked, String> {
-        let words: Vec<String> = words.iter().map(|word| word.to_string()).collect();
-        asked_in(&words)
+    fn asked(words: &str) -> Asked {
+        let words: Vec<String> = words.split(' ').map(str::to_string).collect();
+        asked_in(&words).ok().unwrap()
     }
 
     #[test]
     fn words_are_read() {
-        let asked = read(&["--seed", "7", "--files", "9", "--rows"])
-            .ok()
-            .unwrap();
-        assert_eq!((asked.seed, asked.files, asked.rows), (7, 9, true));
-        assert_eq!(asked.first, 0);
-        assert!(read(&["--first"]).is_err_and(|word| word == "--first wants a number"));
-        assert!(read(&["--files", "x"]).is_err());
-        assert!(read(&["--sed", "7"]).is_err_and(|word| word == "--sed is not known"));
+        let some = asked("--seed 7 --files 9 --rows");
+        assert_eq!((some.seed, some.files, some.rows), (7, 9, true));
+        let other = asked("--first 5");
+        assert_eq!((other.first, other.seed), (5, 20_261_115));
+        assert_eq!((other.files, other.rows), (120_000, false));
     }
 
     #[test]

@@ -1,8 +1,11 @@
-//! The files that a client is given: images with their prefix and suffix. They
-//! are made here, and must be those that the client's own tools make.
+//! The files that a client is given: images with their prefix, made here, and
+//! their suffix by the second writer. They must be those that the client's own
+//! tools make.
 
 use crate::bench::{same_bytes, Bench, PRODUCT, VENDOR};
-use mullirim_host::second::{command, sum, BLOCK};
+use mullirim_host::layout::Parts;
+use mullirim_host::second::{command, BLOCK};
+use mullirim_host::suffix;
 use mullirim_host::tape::header;
 
 /// An image of so many bytes, no piece of which looks like another.
@@ -24,13 +27,14 @@ pub fn suffixed(file: &[u8], vendor: u16, product: u16) -> Vec<u8> {
 }
 
 /// The same for this device, product and vendor.
-pub fn suffixed_for(file: &[u8], numbers: [u16; 3]) -> Vec<u8> {
-    let mut all = file.to_vec();
-    for number in numbers.into_iter().chain([0x0100]) {
-        all.extend(number.to_le_bytes());
-    }
-    all.extend(b"UFD\x10");
-    all.extend(sum(&all).to_le_bytes());
+pub fn suffixed_for(file: &[u8], [device, product, vendor]: [u16; 3]) -> Vec<u8> {
+    let parts = Parts {
+        device,
+        product,
+        vendor,
+    };
+    let mut all = vec![0; file.len() + suffix::SIZE];
+    suffix::write(file, parts, &mut all).expect("room for both");
     all
 }
 

@@ -10,6 +10,7 @@ const SUFFIX: &str = "DFU suffix taken off: its sum is right";
 const FOR_WHOM: &str = "it is for device 0x0100, product 0x0001, vendor 0x1209";
 const HEADER: &str = "PROG header taken off: it is for block 3";
 const UNVOUCHED: &str = "no DFU suffix: nothing vouches for these bytes";
+const BEGINS: &str = "begins like a PROG header for block 3: taken as part of the image";
 
 /// A flash of 8 blocks, the application from block 3 on.
 fn site(folder: &Folder) -> Vec<u8> {
@@ -124,12 +125,33 @@ fn one_header_is_taken_off_and_no_second_one() {
 }
 
 #[test]
-fn a_length_that_does_not_match_is_no_header() {
+fn a_length_that_does_not_match_is_no_header_and_told() {
     let folder = Folder::new("unlike");
     let image = &some_flash(17, 1)[..200];
-    for (at, byte) in [(4, 199), (4, 201), (5, 1), (7, 1), (0, 2), (0, 0)] {
+    for (at, byte, told) in [
+        (4, 199, "199"),
+        (4, 201, "201"),
+        (5, 1, "456"),
+        (7, 255, "4,278,190,280"),
+    ] {
+        let lengths = format!("it tells of {told} bytes, but has 200 behind it");
         let mut file = headed(3, image);
         file[at] = byte;
+        visited(&folder, &file, &file, &[BEGINS, &lengths, UNVOUCHED]);
+        let whole = suffixed(&file, FOR);
+        let told = [SUFFIX, FOR_WHOM, BEGINS, &lengths];
+        visited(&folder, &whole, &file, &told);
+    }
+}
+
+#[test]
+fn another_command_or_place_is_no_header() {
+    let folder = Folder::new("other");
+    let image = &some_flash(17, 1)[..200];
+    for (at, byte) in [(0, 2), (0, 0), (2, 4), (3, 1)] {
+        let mut file = headed(3, image);
+        file[at] = byte;
+        file[4] = if at == 0 { 200 } else { 199 };
         visited(&folder, &file, &file, &[UNVOUCHED]);
         let whole = suffixed(&file, FOR);
         visited(&folder, &whole, &file, &[SUFFIX, FOR_WHOM]);
@@ -272,7 +294,7 @@ fn no_damaged_byte_of_a_dfu_file_is_programmed() {
 fn what_cannot_be_told_from_plain_bytes_is_programmed_with_a_word() {
     let folder = Folder::new("word");
     let file = headed(3, &some_flash(24, 1)[..40]);
-    let (mut other_place, mut plain, mut still) = (0, 0, 0);
+    let (mut other_place, mut plain, mut misfit, mut still) = (0, 0, 0, 0);
     for at in 0..file.len() {
         let mut file = file.clone();
         file[at] ^= 0x80;
@@ -284,9 +306,15 @@ fn what_cannot_be_told_from_plain_bytes_is_programmed_with_a_word() {
                 assert!(said.err.contains("made for another place"), "{}", said.err);
                 other_place += 1;
             }
-            0 | 4..8 => {
+            0 => {
                 visited(&folder, &file, &file, &[UNVOUCHED]);
                 plain += 1;
+            }
+            4..8 => {
+                let told = ["168", "32,808", "8,388,648", "2,147,483,688"][at - 4];
+                let lengths = format!("it tells of {told} bytes, but has 40 behind it");
+                visited(&folder, &file, &file, &[BEGINS, &lengths, UNVOUCHED]);
+                misfit += 1;
             }
             _ => {
                 visited(&folder, &file, &file[8..], &[HEADER, UNVOUCHED]);
@@ -294,7 +322,7 @@ fn what_cannot_be_told_from_plain_bytes_is_programmed_with_a_word() {
             }
         }
     }
-    assert_eq!((other_place, plain, still), (2, 5, 41));
+    assert_eq!((other_place, plain, misfit, still), (2, 1, 4, 41));
 }
 
 #[test]
@@ -378,6 +406,30 @@ fn sums_are_those_of_the_image() {
         let new = format!("new: i, {head}{told}the application from block 3 to 7\n");
         assert!(said.contains(&new), "{said}");
         assert!(said.contains("\n0 blocks differ, 5 do not\n"), "{said}");
+    }
+}
+
+/// What only begins like a header is summed with the image, and told.
+#[test]
+fn sums_tell_of_a_header_that_does_not_fit() {
+    let folder = Folder::new("misfit");
+    site(&folder);
+    let file = &headed(3, &some_flash(27, 5)[..3_000])[..2_808];
+    let lengths = "it tells of 3,000 bytes, but has 2,800 behind it";
+    let head = "an image of 2,808 bytes, as it would stand in a flash of 8 blocks\n";
+    for (file, told) in [
+        (file.to_vec(), &[BEGINS, lengths][..]),
+        (suffixed(file, FOR), &[SUFFIX, FOR_WHOM, BEGINS, lengths]),
+    ] {
+        folder.put("i", file);
+        let told: String = told.iter().map(|line| format!("     {line}\n")).collect();
+        let said = folder.done(&["sums", "--split", "3:8", "--image", "i"]);
+        let awaited = format!("i: {head}{told}the application from block 3 to 7\n");
+        assert!(said.starts_with(&awaited), "{said}");
+        let words = ["sums", "--compare", "flash", "--image", "i"];
+        let said = folder.done(&[&words[..], &["--split", "3:8"]].concat());
+        let new = format!("new: i, {head}{told}the application from block 3 to 7\n");
+        assert!(said.contains(&new), "{said}");
     }
 }
 

@@ -2,6 +2,7 @@
 //! slices copied whole.
 
 use super::{APPLICATION, BLOCK};
+use mullirim_host::layout::Parts;
 
 static REMAINDERS: [u32; 256] = remainders();
 
@@ -76,11 +77,42 @@ pub fn download(flash: &mut [u8], sums: &mut Sums, pieces: &[&[u8]]) -> bool {
     true
 }
 
+/// What is the same in every suffix: bcdDFU, signature and length.
+const FIXED: [u8; 6] = *b"\x00\x01UFD\x10";
+
+/// The parts, and how many bytes stand before the suffix.
+pub fn read_suffix(file: &[u8]) -> Option<(Parts, usize)> {
+    let (summed, last) = file.split_last_chunk::<4>()?;
+    let (image, [d0, d1, p0, p1, v0, v1, fixed @ ..]) = summed.split_last_chunk::<12>()?;
+    let parts = Parts {
+        device: u16::from_le_bytes([*d0, *d1]),
+        product: u16::from_le_bytes([*p0, *p1]),
+        vendor: u16::from_le_bytes([*v0, *v1]),
+    };
+    let right = *fixed == FIXED && u32::from_le_bytes(*last) == sum(summed);
+    right.then_some((parts, image.len()))
+}
+
+/// The file and its suffix at the buffer's front, if there is room.
+pub fn write_suffix(file: &[u8], parts: Parts, buffer: &mut [u8]) -> Option<usize> {
+    let count = file.len() + 16;
+    let (summed, last) = buffer.get_mut(..count)?.split_at_mut(count - 4);
+    let (image, front) = summed.split_at_mut(file.len());
+    image.copy_from_slice(file);
+    front[..2].copy_from_slice(&parts.device.to_le_bytes());
+    front[2..4].copy_from_slice(&parts.product.to_le_bytes());
+    front[4..6].copy_from_slice(&parts.vendor.to_le_bytes());
+    front[6..].copy_from_slice(&FIXED);
+    last.copy_from_slice(&sum(summed).to_le_bytes());
+    Some(count)
+}
+
 #[cfg(test)]
 mod tests {
     use super::*;
     use crate::{noise, FLASH};
     use mullirim_host::second;
+    use mullirim_host::suffix::{self, cases::Case};
 
     #[test]
     fn the_table_agrees_with_the_second_loader() {
@@ -100,6 +132,19 @@ mod tests {
             assert_ne!(sums, Sums::new(&flash));
             sums.refresh(&flash, from, to);
             assert_eq!(sums, Sums::new(&flash));
+        }
+    }
+
+    #[test]
+    fn suffixes_are_those_of_the_second_reader_and_writer() {
+        for number in 0..500 {
+            let case = Case::new(5, number);
+            let Case { file, parts, .. } = &case;
+            assert_eq!(read_suffix(file), suffix::read(file).ok());
+            let [mut ours, mut awaited] = [case.frame.clone(), case.frame.clone()];
+            let count = write_suffix(file, *parts, &mut ours[case.lent()]);
+            let second = suffix::write(file, *parts, &mut awaited[case.lent()]);
+            assert_eq!((count, ours), (second, awaited));
         }
     }
 

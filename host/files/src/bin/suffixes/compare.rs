@@ -1,11 +1,11 @@
 //! The proved calls and the second ones side by side over one case.
 
-use crate::cases::Case;
-use crate::seen::Seen;
 use crate::tally::Tally;
 use mullirim_files::suffix::{self, Parts, Refusal, SIZE};
 use mullirim_host::layout::{SuffixRead, Written};
 use mullirim_host::suffix as second;
+use mullirim_host::suffix::cases::Case;
+use mullirim_host::suffix::seen::Seen;
 use std::fmt::Debug;
 
 /// What the proved calls left and what is awaited.
@@ -21,18 +21,7 @@ pub fn both(case: &Case, tally: &mut Tally) -> Same {
 
 fn read(case: &Case, tally: &mut Tally) -> Result<SuffixRead, String> {
     let awaited = second::read(&case.file);
-    let as_c = match awaited {
-        Ok((parts, length)) => SuffixRead {
-            parts,
-            refused: 0,
-            length,
-        },
-        Err(refused) => SuffixRead {
-            parts: NO_PARTS,
-            refused,
-            length: 0,
-        },
-    };
+    let as_c = SuffixRead::from(awaited);
     tally.calls += 2;
     same("what reading gives", suffix::read_as_c(&case.file), as_c)?;
     let read = suffix::read(&case.file).map_err(Refusal::number);
@@ -42,12 +31,6 @@ fn read(case: &Case, tally: &mut Tally) -> Result<SuffixRead, String> {
     }
     Ok(as_c)
 }
-
-const NO_PARTS: Parts = Parts {
-    device: 0,
-    product: 0,
-    vendor: 0,
-};
 
 /// Writing what was read gives the same bytes.
 fn same_again(case: &Case, parts: Parts, length: usize, tally: &mut Tally) -> Same {
@@ -62,10 +45,7 @@ fn write(case: &Case, tally: &mut Tally) -> Result<Written, String> {
     let Case { file, parts, .. } = case;
     let mut frame = case.frame.clone();
     let awaited = second::write(file, *parts, &mut frame[case.lent()]);
-    let as_c = Written {
-        refused: u32::from(awaited.is_none()),
-        count: awaited.unwrap_or(0),
-    };
+    let as_c = Written::from(awaited);
     let mut left = case.frame.clone();
     let written = suffix::write_as_c(file, *parts, &mut left[case.lent()]);
     same("what writing gives", written, as_c)?;

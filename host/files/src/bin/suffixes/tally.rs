@@ -1,7 +1,7 @@
 //! What a run has met, so that one which met too little is not called a success.
 
-use crate::rows::Rows;
-use crate::seen::Seen;
+use mullirim_host::suffix::rows::Rows;
+use mullirim_host::suffix::seen::Seen;
 use std::fmt;
 
 pub struct Tally {
@@ -19,7 +19,7 @@ impl Tally {
             files: 0,
             accepted: 0,
             written: 0,
-            rows: Rows::new(),
+            rows: Rows::unmet(),
         }
     }
 
@@ -63,8 +63,8 @@ impl fmt::Display for Tally {
 #[cfg(test)]
 mod tests {
     use super::*;
-    use crate::cases::Case;
     use mullirim_host::layout::{Parts, SuffixRead, Written};
+    use mullirim_host::suffix::cases::Case;
     use std::collections::HashSet;
 
     const PARTS: Parts = Parts {

@@ -1,9 +1,9 @@
 //! The files: right ones, and wrong ones of every kind that the paper refuses.
-//! They are laid here byte by byte, by neither of the two that are compared.
+//! They are laid here byte by byte, by none of those that are tried with them.
 
-use mullirim_files::suffix::Parts;
-use mullirim_host::dice::Dice;
-use mullirim_host::second::sum;
+use crate::dice::Dice;
+use crate::layout::Parts;
+use crate::second::sum;
 
 /// A suffix but for its sum.
 const HEAD: usize = 12;

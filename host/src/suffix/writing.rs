@@ -1,7 +1,7 @@
 //! The rows of writing.
 
-use crate::rows::{Rows, LENGTHS};
-use crate::seen::Seen;
+use super::rows::{Rows, LENGTHS};
+use super::seen::Seen;
 
 impl Rows {
     pub fn writing(&mut self) {

@@ -1,8 +1,8 @@
 //! The rows of the paper that a file can fall under, each with how often one
 //! did. A run that leaves a row out has compared too little.
 
-use crate::seen::Seen;
-use mullirim_files::suffix::Parts;
+use super::seen::Seen;
+use crate::layout::Parts;
 
 type Holds = Box<dyn Fn(&Seen) -> bool>;
 
@@ -11,7 +11,8 @@ pub struct Rows {
 }
 
 impl Rows {
-    pub fn new() -> Rows {
+    /// Every row, and none of them met.
+    pub fn unmet() -> Rows {
         let mut rows = Rows { rows: Vec::new() };
         rows.reading();
         rows.writing();

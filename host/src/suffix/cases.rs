@@ -2,9 +2,9 @@
 //! with, and a buffer. Each case is made from a seed and its number alone, so
 //! that any of them can be repeated by itself.
 
-use crate::files;
-use mullirim_files::suffix::{Parts, SIZE};
-use mullirim_host::dice::Dice;
+use super::{files, SIZE};
+use crate::dice::Dice;
+use crate::layout::Parts;
 use std::ops::Range;
 
 /// What stands before and behind a lent buffer, to see a byte that goes astray.

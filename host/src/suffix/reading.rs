@@ -1,8 +1,8 @@
 //! The rows of reading.
 
-use crate::rows::{Rows, LENGTHS};
-use crate::seen::{Seen, RULES};
-use mullirim_host::second::sum;
+use super::rows::{Rows, LENGTHS};
+use super::seen::{Seen, RULES};
+use crate::second::sum;
 
 /// Rules by their places in the paper's order.
 const SIGNATURE: usize = 1;

@@ -1,8 +1,8 @@
 //! A case as the rows look at it: taken apart, with what came of it.
 
-use crate::cases::Case;
-use mullirim_host::layout::{SuffixRead, Written};
-use mullirim_host::second::sum;
+use super::cases::Case;
+use crate::layout::{SuffixRead, Written};
+use crate::second::sum;
 
 /// The reader's rules in the paper's order.
 pub const RULES: [&str; 5] = ["under 16 bytes", "signature", "length", "bcdDFU", "sum"];
