@@ -2,7 +2,7 @@
  * Mullirim's file formats, for hosts: the calls of the library `files` for C. A board needs none of them, and its own library
  * (mullirim.h) holds none of them.
  *
- * The calls take any values and keep no memory of their own; of the C library they want memcpy and memset only. What a caller owes:
+ * The calls take any values and keep no memory of their own; of the C library they want memcpy and memset at most. What a caller owes:
  *  - a pointer with a length points at that many bytes, which the call may read, and write where it is not const. With the length
  *    0 it still is not null;
  *  - a buffer that is written overlaps with nothing else that the same call is lent;
@@ -39,20 +39,23 @@ struct mullirim_parts {
 };
 
 /* What reading a suffix gives. */
-struct mullirim_suffix_read {
+struct mullirim_suffix_found {
     struct mullirim_parts parts; /* zeros where it was refused */
     uint16_t refused;            /* one of enum mullirim_suffix_refusal */
     size_t length;               /* the bytes before the suffix; 0 where it was refused */
 };
 
-/* What writing a file gives. */
+/* What writing a file gives, in whatever format. */
 struct mullirim_written {
-    uint32_t refused; /* 0 for what was written, else why nothing was; for a suffix 1, too little room */
-    size_t count;     /* the bytes at the buffer's front that were written */
+    uint32_t refused; /* 0 for what was written, else why nothing was; for a suffix MULLIRIM_SUFFIX_NO_ROOM */
+    size_t count;     /* the bytes at the buffer's front that were written; 0 where it was refused */
 };
 
+/* Why no suffix is written: the buffer has less room than the file and 16 bytes more. */
+#define MULLIRIM_SUFFIX_NO_ROOM 1u
+
 /* Reads the suffix at the end of a file. */
-struct mullirim_suffix_read mullirim_suffix_read(const uint8_t *file, size_t file_len);
+struct mullirim_suffix_found mullirim_suffix_read(const uint8_t *file, size_t file_len);
 
 /*
  * Writes the file and then its suffix to the buffer's front; what lies behind them stays. Refused, with no byte of the buffer changed,

@@ -37,7 +37,7 @@ static void play_read(uint8_t *file, size_t len)
     uint32_t refused = read_number(UINT16_MAX), length = read_number(MOST);
 
     for (int time = 0; time < TIMES; time++, calls++) {
-        struct mullirim_suffix_read r = mullirim_suffix_read(lend(&f, file, len), len);
+        struct mullirim_suffix_found r = mullirim_suffix_read(lend(&f, file, len), len);
         same_back(&f, file, len);
         if (r.refused != refused)
             fail("refusal of a read");

@@ -174,7 +174,7 @@ laid! {
 laid! {
     /// What reading a suffix hands back: where it was refused, zeros and the
     /// refusal's number.
-    pub struct SuffixRead {
+    pub struct SuffixFound {
         pub parts: Parts,
         pub refused: u16,
         pub length: usize,
@@ -200,7 +200,7 @@ pub const STRUCTS: [Struct; 11] = [
     Started::TABLE,
     Answer::TABLE,
     Parts::TABLE,
-    SuffixRead::TABLE,
+    SuffixFound::TABLE,
     Written::TABLE,
 ];
 

@@ -11,7 +11,7 @@ pub mod rows;
 pub mod seen;
 mod writing;
 
-use crate::layout::{Parts, SuffixRead, Written};
+use crate::layout::{Parts, SuffixFound, Written};
 use crate::second::sum;
 
 /// The bytes of a suffix.
@@ -76,15 +76,15 @@ pub fn write(file: &[u8], parts: Parts, buffer: &mut [u8]) -> Option<usize> {
 }
 
 /// As the call for C must hand it back.
-impl From<Result<(Parts, usize), u16>> for SuffixRead {
-    fn from(read: Result<(Parts, usize), u16>) -> SuffixRead {
+impl From<Result<(Parts, usize), u16>> for SuffixFound {
+    fn from(read: Result<(Parts, usize), u16>) -> SuffixFound {
         let nothing = Parts {
             device: 0,
             product: 0,
             vendor: 0,
         };
         let (parts, length) = read.unwrap_or((nothing, 0));
-        SuffixRead {
+        SuffixFound {
             parts,
             refused: read.err().unwrap_or(0),
             length,
@@ -92,12 +92,18 @@ impl From<Result<(Parts, usize), u16>> for SuffixRead {
     }
 }
 
-/// The same for writing, whose one refusal is numbered 1.
+/// Why a writer refuses: its one reason.
+pub const NO_ROOM: u32 = 1;
+
+/// The same for writing.
 impl From<Option<usize>> for Written {
     fn from(written: Option<usize>) -> Written {
-        Written {
-            refused: u32::from(written.is_none()),
-            count: written.unwrap_or(0),
+        match written {
+            Some(count) => Written { refused: 0, count },
+            None => Written {
+                refused: NO_ROOM,
+                count: 0,
+            },
         }
     }
 }

@@ -13,7 +13,7 @@ use Rattle.suffix.specs.declared.Reading.the-variants.{Suffixed, Short, Signatu
 use Rattle.suffix.specs.declared.Writing.{Writing}
 use Rattle.suffix.specs.declared.Writing.the-variants.{Wrote, NoRoom}
 use Rattle.suffix.specs.Suffix.{Left, left, writeOf}
-use Rattle.files.specs.declared.SuffixRead.{SuffixRead}
+use Rattle.files.specs.declared.SuffixFound.{SuffixFound}
 use Rattle.files.specs.declared.Written.{Written}
 use Rattle.files.specs.Files.{refusedBy, toldRead, toldWritten, atHost, suffixWritten}
 
@@ -49,7 +49,7 @@ read-back Sum = refl
 
 pub read-tells : (r s : Reading) → toldRead r ≡ toldRead s → r ≡ s
 read-tells r s e =
-    sym (read-back r) ∙ ap (λ (f : SuffixRead). readBy (f .refused) (Suffixed (f .parts) (f .length))) e ∙ read-back s
+    sym (read-back r) ∙ ap (λ (f : SuffixFound). readBy (f .refused) (Suffixed (f .parts) (f .length))) e ∙ read-back s
 
 -- what a writing leaves is heard as it is told
 pub written :

@@ -7,15 +7,15 @@ use Rattle.suffix.specs.declared.Reading.the-variants.{Suffixed, Short, Signatu
 use Rattle.suffix.specs.declared.Writing.{Writing}
 use Rattle.suffix.specs.declared.Writing.the-variants.{Wrote, NoRoom}
 use Rattle.suffix.specs.Suffix.{refusalNumber, Left, writeOf}
-use Rattle.files.specs.declared.SuffixRead.{SuffixRead}
+use Rattle.files.specs.declared.SuffixFound.{SuffixFound}
 use Rattle.files.specs.declared.Written.{Written}
 
 -- a refusal by its number, with nothing read
-abbrev pub refusedBy : Reading → SuffixRead
+abbrev pub refusedBy : Reading → SuffixFound
 refusedBy r = record { parts = record { device = 0; product = 0; vendor = 0 }; refused = refusalNumber r; length = 0 }
 
 -- a reading, as the host has it
-unfoldable pub toldRead : Reading → SuffixRead
+unfoldable pub toldRead : Reading → SuffixFound
 toldRead (Suffixed p n) = record { parts = p; refused = 0; length = n }
 toldRead Short = refusedBy Short
 toldRead Signature = refusedBy Signature

@@ -9,7 +9,7 @@ ghost use Rattle.files.specs.Files.{toldRead, atHost, suffixWritten};
 
 // A suffix that was read, with the bytes before it; or why it was refused, and zeros.
 #[repr(C)]
-pub struct SuffixRead {
+pub struct SuffixFound {
     pub parts: Parts,
     pub refused: u16,
     pub length: usize,
@@ -23,17 +23,17 @@ pub struct Written {
 }
 
 #[no_mangle]
-pub extern "C" fn mullirim_suffix_read(file: &[u8]) -> SuffixRead
+pub extern "C" fn mullirim_suffix_read(file: &[u8]) -> SuffixFound
     ensures { λ r. ⌜ r ≡ toldRead (readOf (now (file .entry))) ⌝ }
 {
     let reading = suffix::read(file);
     match reading {
-        Reading::Suffixed { parts, length } => SuffixRead {
+        Reading::Suffixed { parts, length } => SuffixFound {
             parts: parts,
             refused: 0,
             length: length,
         },
-        _ => SuffixRead {
+        _ => SuffixFound {
             parts: Parts {
                 device: 0,
                 product: 0,

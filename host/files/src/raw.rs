@@ -1,9 +1,9 @@
 //! The library's calls as `include/mullirim_files.h` declares them.
 
-use mullirim_host::layout::{Parts, SuffixRead, Written};
+use mullirim_host::layout::{Parts, SuffixFound, Written};
 
 extern "C" {
-    pub fn mullirim_suffix_read(file: *const u8, file_len: usize) -> SuffixRead;
+    pub fn mullirim_suffix_read(file: *const u8, file_len: usize) -> SuffixFound;
 
     pub fn mullirim_suffix_write(
         file: *const u8,

@@ -1,7 +1,7 @@
 //! The suffix of a DFU file.
 
 use crate::raw;
-use mullirim_host::layout::{SuffixRead, Written};
+use mullirim_host::layout::{SuffixFound, Written};
 
 pub use mullirim_host::layout::Parts;
 
@@ -49,7 +49,7 @@ pub fn write(file: &[u8], parts: Parts, buffer: &mut [u8]) -> Option<usize> {
 }
 
 /// All that the call for C hands back, also on a refusal.
-pub fn read_as_c(file: &[u8]) -> SuffixRead {
+pub fn read_as_c(file: &[u8]) -> SuffixFound {
     // SAFETY: the slice lends its bytes for the call, which only reads them; a
     // pointer from a slice is not null, also where it is empty.
     unsafe { raw::mullirim_suffix_read(file.as_ptr(), file.len()) }

@@ -22,6 +22,7 @@ fn main() {
         ("MULLIRIM_SUFFIX_LENGTH", refusal::LENGTH.into()),
         ("MULLIRIM_SUFFIX_VERSION", refusal::VERSION.into()),
         ("MULLIRIM_SUFFIX_SUM", refusal::SUM.into()),
+        ("MULLIRIM_SUFFIX_NO_ROOM", suffix::NO_ROOM as usize),
     ] {
         println!("NUMBER({name}, {number});");
     }
@@ -40,7 +41,7 @@ fn print(table: &Struct) {
     println!("ALL({name}, {});", zeros(table));
 }
 
-/// `SuffixRead` is `mullirim_suffix_read` in C.
+/// `SuffixFound` is `mullirim_suffix_found` in C.
 fn in_c(name: &str) -> String {
     let mut in_c = "mullirim".to_string();
     for letter in name.chars() {

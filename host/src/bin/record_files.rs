@@ -3,7 +3,7 @@
 //! `tests/replay_files.c` reads it, and says how it is laid out. A recording
 //! that would leave a row of the paper out is not brought to its end.
 
-use mullirim_host::layout::{Parts, SuffixRead, Written};
+use mullirim_host::layout::{Parts, SuffixFound, Written};
 use mullirim_host::suffix::cases::Case;
 use mullirim_host::suffix::rows::Rows;
 use mullirim_host::suffix::seen::Seen;
@@ -47,7 +47,7 @@ fn case_bytes(case: &Case, rows: &mut Rows) -> Vec<u8> {
     let Case { file, parts, .. } = case;
     let mut frame = case.frame.clone();
     let buffer = &mut frame[case.lent()];
-    let read = SuffixRead::from(read(file));
+    let read = SuffixFound::from(read(file));
     let mut bytes = vec![b'F'];
     bytes.extend(numbers([file.len()]));
     bytes.extend(file);

@@ -1,7 +1,7 @@
 //! A case as the rows look at it: taken apart, with what came of it.
 
 use super::cases::Case;
-use crate::layout::{SuffixRead, Written};
+use crate::layout::{SuffixFound, Written};
 use crate::second::sum;
 
 /// The reader's rules in the paper's order.
@@ -9,7 +9,7 @@ pub const RULES: [&str; 5] = ["under 16 bytes", "signature", "length", "bcdDFU",
 
 pub struct Seen<'a> {
     pub case: &'a Case,
-    pub read: SuffixRead,
+    pub read: SuffixFound,
     pub written: Written,
     /// The rules that the file breaks, by their bits. What a short file is too
     /// short to have counts as broken.
@@ -19,7 +19,7 @@ pub struct Seen<'a> {
 }
 
 impl<'a> Seen<'a> {
-    pub fn new(case: &'a Case, read: SuffixRead, written: Written) -> Seen<'a> {
+    pub fn new(case: &'a Case, read: SuffixFound, written: Written) -> Seen<'a> {
         let file = &case.file;
         let sum = sum(&file[..file.len().saturating_sub(4)]);
         let broken = [

@@ -2,7 +2,7 @@
 
 use crate::tally::Tally;
 use mullirim_files::suffix::{self, Parts, Refusal, SIZE};
-use mullirim_host::layout::{SuffixRead, Written};
+use mullirim_host::layout::{SuffixFound, Written};
 use mullirim_host::suffix as second;
 use mullirim_host::suffix::cases::Case;
 use mullirim_host::suffix::seen::Seen;
@@ -19,9 +19,9 @@ pub fn both(case: &Case, tally: &mut Tally) -> Same {
     Ok(())
 }
 
-fn read(case: &Case, tally: &mut Tally) -> Result<SuffixRead, String> {
+fn read(case: &Case, tally: &mut Tally) -> Result<SuffixFound, String> {
     let awaited = second::read(&case.file);
-    let as_c = SuffixRead::from(awaited);
+    let as_c = SuffixFound::from(awaited);
     tally.calls += 2;
     same("what reading gives", suffix::read_as_c(&case.file), as_c)?;
     let read = suffix::read(&case.file).map_err(Refusal::number);

@@ -63,7 +63,7 @@ impl fmt::Display for Tally {
 #[cfg(test)]
 mod tests {
     use super::*;
-    use mullirim_host::layout::{Parts, SuffixRead, Written};
+    use mullirim_host::layout::{Parts, SuffixFound, Written};
     use mullirim_host::suffix::cases::Case;
     use std::collections::HashSet;
 
@@ -86,7 +86,7 @@ mod tests {
 
     fn met(refused: u16) -> Vec<String> {
         let mut tally = Tally::new();
-        let read = SuffixRead {
+        let read = SuffixFound {
             parts: PARTS,
             refused,
             length: 0,
