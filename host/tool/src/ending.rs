@@ -101,7 +101,7 @@ fn is_altered(bytes: &[u8]) -> bool {
     let others: Vec<usize> = (0..FIXED.len()).filter(other).collect();
     match others[..] {
         [_] => true,
-        [one, two] => two == one + 1 && [bytes[two], bytes[one]] == FIXED[one..=two],
+        [one, two] => [bytes[two], bytes[one]] == FIXED[one..=two],
         _ => false,
     }
 }
@@ -130,11 +130,7 @@ fn whole_file_within(file: &[u8]) -> Option<usize> {
     let mut sum = u32::MAX;
     for (length, byte) in (1..).zip(file) {
         sum = summed(sum, *byte);
-        let begin = &file[..length];
-        if sum == 0
-            && last(begin, FIXED.len() + SUM_BYTES).starts_with(&FIXED)
-            && read(begin).is_ok()
-        {
+        if sum == 0 && read(&file[..length]).is_ok() {
             return Some(length);
         }
     }
@@ -257,6 +253,9 @@ mod tests {
         }
         let file = changed(&damaged(), 108, &[0x55, 0x46, 0x10, 0x44]);
         assert_eq!(ending(&file), ALTERED);
+        // Two that are no neighbours.
+        let file = changed(&damaged(), 108, b"DFU");
+        assert_eq!(ending(&file), Ending::Plain);
     }
 
     #[test]
@@ -300,6 +299,9 @@ mod tests {
         assert_eq!(ending(&other), added(116, 300));
         let twice = [&suffixed(&file)[..], &[7; 300]].concat();
         assert_eq!(ending(&twice), added(116, 316));
+        // The sum alone makes no DFU file.
+        let short = [&FIXED[..], &sum(&FIXED).to_le_bytes(), &[7; 300]].concat();
+        assert_eq!(ending(&short), Ending::Plain);
     }
 
     /// Where the sum does not help, the fixed bytes do as long as they are near.

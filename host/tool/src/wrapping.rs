@@ -82,7 +82,7 @@ pub fn taken_off(file: &[u8], first: u16) -> Result<(&[u8], Wrapping), String> {
     let wrapping = Wrapping {
         suffix,
         header,
-        misfit: misfit(inside, first),
+        misfit: misfit(image, first),
         plain: false,
     };
     Ok((image, wrapping))
@@ -459,6 +459,14 @@ mod tests {
             let inner = headed(block, 99, &FIRMWARE);
             assert_eq!(taken(&headed(16, 108, &inner)).0, inner);
         }
+        // One that does not fit is told as elsewhere.
+        let (_, wrapping) = taken(&headed(16, 108, &headed(16, 99, &FIRMWARE)));
+        let lines = [
+            "PROG header taken off: it is for block 16",
+            "begins like a PROG header for block 16: taken as part of the image",
+            "it tells of 99 bytes, but has 100 behind it",
+        ];
+        assert_eq!(wrapping.told(), lines);
     }
 
     #[test]
