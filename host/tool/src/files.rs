@@ -20,19 +20,28 @@ pub struct Image {
     pub wrapping: Wrapping,
 }
 
+/// A file for an image, and whether it is to be taken as it stands.
+#[derive(Clone, Copy)]
+pub struct Wanted<'a> {
+    pub path: &'a Path,
+    pub plain: bool,
+}
+
 pub fn read_flash(path: &Path) -> Result<Vec<u8>, String> {
     let file = read_up_to(path, MOST_WRAPPED + 1)?;
-    // What is wrapped also has the wrong length, mostly; the wrapping is why.
-    wrapping::none_around(&file)
-        .and_then(|()| fit_flash(file.len()))
-        .map_err(|why| format!("{}: {why}", shown(path)))?;
+    flash_of(&file).map_err(|why| format!("{}: {why}", shown(path)))?;
     Ok(file)
 }
 
 /// An image for an application of `room` bytes from block `first` on.
-pub fn read_image(path: &Path, first: u16, room: usize) -> Result<Image, String> {
+pub fn read_image(wanted: Wanted, first: u16, room: usize) -> Result<Image, String> {
+    let Wanted { path, plain } = wanted;
     let file = read_up_to(path, MOST_WRAPPED + 1)?;
-    image_of(&file, first, room).map_err(|why| format!("{}: {why}", shown(path)))
+    let image = match plain {
+        true => plain_image_of(file, room),
+        false => image_of(&file, first, room),
+    };
+    image.map_err(|why| format!("{}: {why}", shown(path)))
 }
 
 /// At most so many bytes of a file, so that one without an end is not awaited.
@@ -42,6 +51,22 @@ pub fn read_up_to(path: &Path, most: usize) -> Result<Vec<u8>, String> {
         .and_then(|file| file.take(most as u64).read_to_end(&mut bytes))
         .map_err(|error| format!("can't read {}: {error}", shown(path)))?;
     Ok(bytes)
+}
+
+/// Whole blocks are a flash, whatever they begin with or end in. What is around
+/// other bytes may be why they are none; where a file was read to its end.
+fn flash_of(file: &[u8]) -> Result<(), String> {
+    let fits = fit_flash(file.len());
+    if fits.is_err() && file.len() <= MOST_WRAPPED {
+        wrapping::none_around(file)?;
+    }
+    fits
+}
+
+fn plain_image_of(bytes: Vec<u8>, room: usize) -> Result<Image, String> {
+    fit_image(bytes.len(), room)?;
+    let wrapping = wrapping::left_on();
+    Ok(Image { bytes, wrapping })
 }
 
 fn image_of(file: &[u8], first: u16, room: usize) -> Result<Image, String> {
@@ -167,6 +192,56 @@ mod tests {
     }
 
     #[test]
+    fn whole_blocks_are_a_flash_whatever_is_around_them() {
+        let firmware = [0x42; MOST_BYTES];
+        for blocks in [2, 3, MOST_BYTES / BLOCK_BYTES] {
+            let length = blocks * BLOCK_BYTES;
+            let ends = suffixed(&firmware[..length - 16]);
+            let begins = headed(0, &firmware[..length - 8]);
+            for flash in [ends, begins] {
+                assert_eq!(flash.len(), length);
+                assert_eq!(flash_of(&flash), Ok(()));
+            }
+        }
+        let one = suffixed(&firmware[..BLOCK_BYTES - 16]);
+        assert!(flash_of(&one).unwrap_err().contains("DFU suffix"));
+        let one = headed(0, &firmware[..BLOCK_BYTES - 8]);
+        assert!(flash_of(&one).unwrap_err().contains("PROG header"));
+    }
+
+    /// A file that goes on behind what was read of it has its end elsewhere.
+    #[test]
+    fn a_file_that_was_not_read_to_its_end_is_only_too_long() {
+        let firmware = [0x42; MOST_WRAPPED];
+        let why = "no flash has more than 65,536 bytes; ";
+        for file in [
+            suffixed(&firmware[..MOST_WRAPPED + 1 - 16]),
+            headed(0, &firmware[..MOST_WRAPPED + 1 - 8]),
+        ] {
+            assert_eq!(file.len(), MOST_WRAPPED + 1);
+            assert!(flash_of(&file).unwrap_err().starts_with(why));
+        }
+    }
+
+    #[test]
+    fn a_plain_image_is_all_of_its_file() {
+        let firmware = [0x42; 2_000];
+        let both = suffixed(&headed(7, &firmware));
+        let [two, mut bad] = [suffixed(&both), both.clone()];
+        bad[2_020] ^= 1;
+        for file in [both, two, bad, headed(7, &headed(9, &firmware))] {
+            let image = plain_image_of(file.clone(), 2_048).unwrap();
+            assert_eq!(image.bytes, file);
+            assert_eq!(image.wrapping, wrapping::left_on());
+        }
+        let why = "the image has 2,049 bytes, and the application holds 2,048 bytes";
+        let long = plain_image_of(vec![0x42; 2_049], 2_048);
+        assert_eq!(long, Err(why.to_string()));
+        let why = "the image is empty; a download has at least 1 byte";
+        assert_eq!(plain_image_of(Vec::new(), 2_048), Err(why.to_string()));
+    }
+
+    #[test]
     fn an_image_is_judged_without_its_wrapping() {
         let room = 2_048;
         for length in [1, room] {
@@ -213,6 +288,10 @@ mod tests {
         let endless = Path::new("/dev/zero");
         assert!(read_flash(endless).unwrap_err().starts_with(why));
         let why = "/dev/zero: the image has more than 65,536 bytes, ";
-        assert!(read_image(endless, 1, 1_024).unwrap_err().starts_with(why));
+        for plain in [false, true] {
+            let path = endless;
+            let wanted = Wanted { path, plain };
+            assert!(read_image(wanted, 1, 1_024).unwrap_err().starts_with(why));
+        }
     }
 }

@@ -1,6 +1,7 @@
 //! mullirim, the technician's tool. What it does to a flash, and the sums that
 //! it tells of one, go through the proved calls; so do the suffixes of DFU files.
 
+mod ending;
 mod files;
 mod names;
 mod place;

@@ -13,6 +13,11 @@ pub fn unknown(flag: &str) -> String {
     format!("no flag is called {}", shown(flag))
 }
 
+/// A flash file, and what is built in, are taken as they stand anyway.
+pub fn plain_alone() -> String {
+    "--plain is for an image that is named by --image".to_string()
+}
+
 pub fn once<T>(slot: &mut Option<T>, flag: &str, value: T) -> Result<(), String> {
     match slot.replace(value) {
         None => Ok(()),

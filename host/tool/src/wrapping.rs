@@ -1,27 +1,25 @@
 //! What stands around an image in a file: a DFU suffix behind it, and before it
-//! the PROG header that would load it, as other tools and uploads write it. The
-//! suffix is read by the proved call.
+//! the PROG header that would load it, as other tools and uploads write it. What
+//! can be recognised as either, and does not come off, is refused.
 
+use crate::ending::{ending, Ending};
 use crate::screen::{counted, grouped};
 use crate::suffix::{for_whom, why};
-use mullirim_files::suffix::{read, Parts, Refusal, SIZE};
+use mullirim_files::suffix::{Parts, SIZE};
 use mullirim_host::second::command;
 
 /// The most bytes that stand around an image.
 pub const MOST_BYTES: usize = command::LENGTH + SIZE;
 
-/// What is the same in every suffix, and where it stands: bcdDFU, signature and
-/// length.
-const FIXED: [u8; 6] = [0x00, 0x01, 0x55, 0x46, 0x44, 0x10];
-const FIXED_PLACE: usize = 6;
-
 /// What was taken off an image, and what was not though it looks like it.
-#[derive(Clone, Copy, Debug, PartialEq)]
+#[derive(Clone, Copy, Debug, Default, PartialEq)]
 pub struct Wrapping {
     pub suffix: Option<Parts>,
     /// The block for which a PROG header was.
     pub header: Option<u16>,
     pub misfit: Option<Misfit>,
+    /// Nothing was looked for, by the technician's wish.
+    pub plain: bool,
 }
 
 /// The beginning of an image that would be a PROG header for its place, if as
@@ -44,7 +42,19 @@ impl Wrapping {
             lines.push(format!("PROG header taken off: it is for block {block}"));
         }
         lines.extend(self.misfit.iter().flat_map(Misfit::told));
+        if self.plain {
+            lines.push("taken as it stands (--plain), whatever is around it".to_string());
+        }
         lines
+    }
+
+    /// What a technician should know before trusting the image.
+    pub fn vouched(&self) -> Option<&'static str> {
+        match self {
+            Wrapping { plain: true, .. } => Some("nothing vouches for these bytes"),
+            Wrapping { suffix: None, .. } => Some("no DFU suffix: nothing vouches for these bytes"),
+            _ => None,
+        }
     }
 }
 
@@ -68,113 +78,113 @@ impl Misfit {
 /// around it.
 pub fn taken_off(file: &[u8], first: u16) -> Result<(&[u8], Wrapping), String> {
     let (inside, suffix) = without_suffix(file)?;
-    let (image, header) = without_header(inside, first)?;
+    let (image, header) = without_header(inside, first, way_out(suffix))?;
     let wrapping = Wrapping {
         suffix,
         header,
-        misfit: misfit(inside, first),
+        misfit: misfit(image, first),
+        plain: false,
     };
     Ok((image, wrapping))
 }
 
-/// A flash file holds what stands in flash, and nothing is taken off it.
+/// A file that stands for itself.
+pub fn left_on() -> Wrapping {
+    Wrapping {
+        plain: true,
+        ..Wrapping::default()
+    }
+}
+
+/// What may be the reason why a file's length is no flash's: a flash file holds
+/// what stands in flash, and nothing is taken off it.
 pub fn none_around(flash: &[u8]) -> Result<(), String> {
-    let found = if ends_in_suffix(flash) {
-        "ends in a DFU suffix, whose 16 bytes would be taken for firmware"
-    } else if header(flash).is_some_and(|header| header.fits()) {
-        "begins with a PROG header, whose 8 bytes would shift the firmware"
-    } else {
-        return Ok(());
+    let found = match ending(flash) {
+        Ending::Whole(..) | Ending::Damaged(_) => {
+            "ends in a DFU suffix, whose 16 bytes would be taken for firmware"
+        }
+        _ if fitting(flash).is_some() => {
+            "begins with a PROG header, whose 8 bytes would shift the firmware"
+        }
+        _ => return Ok(()),
     };
     Err(format!(
         "the file {found}; take them off first, or name it by --image if it is an image"
     ))
 }
 
-/// Also one that is damaged: its length is no flash's, mostly, and the suffix is
-/// why.
-fn ends_in_suffix(bytes: &[u8]) -> bool {
-    match bytes.last_chunk::<SIZE>() {
-        Some(end) => end[FIXED_PLACE..][2..6] == FIXED[2..],
-        None => false,
+/// What a technician can do who knows that the file is right as it is.
+fn way_out(suffix: Option<Parts>) -> &'static str {
+    match suffix {
+        None => "--plain takes the file as it stands",
+        Some(_) => "--plain takes the file as it stands, its suffix too",
     }
 }
 
 fn without_suffix(file: &[u8]) -> Result<(&[u8], Option<Parts>), String> {
-    match read(file) {
-        Ok((parts, length)) => {
-            let inside = &file[..length];
-            no_other_suffix(inside)?;
-            Ok((inside, Some(parts)))
+    match ending(file) {
+        Ending::Plain => Ok((file, None)),
+        Ending::Whole(parts, length) => {
+            let (inside, suffix) = (&file[..length], Some(parts));
+            no_suffix_inside(inside, way_out(suffix))?;
+            Ok((inside, suffix))
         }
-        Err(Refusal::Short | Refusal::Signature) => {
-            no_lost_suffix(file)?;
-            Ok((file, None))
-        }
-        Err(refusal) => Err(why(refusal).to_string()),
+        Ending::Damaged(refusal) => Err(why(refusal).to_string()),
+        Ending::Lost(lost) => Err(format!(
+            "the file {}; get it anew; {}",
+            lost.told(),
+            way_out(None)
+        )),
     }
 }
 
-/// The outer suffix vouches for the inner one too, but nobody means to program
-/// that.
-fn no_other_suffix(inside: &[u8]) -> Result<(), String> {
-    match read(inside) {
-        Ok(_) => Err(
+/// What is around an image vouches for its end too, but nobody means to program
+/// a suffix, in whatever state it is.
+fn no_suffix_inside(image: &[u8], way_out: &str) -> Result<(), String> {
+    Err(match ending(image) {
+        Ending::Plain => return Ok(()),
+        Ending::Whole(..) => {
             "the file ends in two DFU suffixes, of which the first would be taken \
-                      for firmware; take one off first"
-                .to_string(),
+                              for firmware; take one off first (dfu-suffix -D FILE)"
+                .to_string()
+        }
+        Ending::Damaged(refusal) => format!(
+            "the image inside ends in a DFU suffix too, which would be taken for firmware; and \
+             that one is not right: {}",
+            why(refusal)
         ),
-        Err(_) => Ok(()),
-    }
+        Ending::Lost(lost) => format!(
+            "the image inside {}; get the file anew; {way_out}",
+            lost.told()
+        ),
+    })
 }
 
-/// Bytes without a suffix are taken as they are, so a suffix that no longer
-/// reads as one would be programmed with them.
-fn no_lost_suffix(file: &[u8]) -> Result<(), String> {
-    let lost = if signature_is_altered(file) {
-        "ends in a DFU suffix whose signature, 55 46 44, was altered"
-    } else if suffix_is_elsewhere(file) {
-        "has a DFU suffix near its end and not at it: bytes were cut off there, or added"
-    } else {
-        return Ok(());
+fn without_header<'a>(
+    bytes: &'a [u8],
+    first: u16,
+    way_out: &str,
+) -> Result<(&'a [u8], Option<u16>), String> {
+    let Some(Header { block, behind, .. }) = fitting(bytes) else {
+        return Ok((bytes, None));
     };
-    Err(format!(
-        "the file {lost}; get it anew, or add a suffix to it if you know that it is right"
-    ))
-}
-
-/// With its signature put right the file is whole; or, where more than that was
-/// altered, most of what is fixed in a suffix is there.
-fn signature_is_altered(file: &[u8]) -> bool {
-    let Some(place) = file.len().checked_sub(SIZE).map(|end| end + FIXED_PLACE) else {
-        return false;
-    };
-    let same: Vec<bool> = FIXED
-        .iter()
-        .zip(&file[place..])
-        .map(|(a, b)| a == b)
-        .collect();
-    let signature = same[2..5].iter().filter(|same| **same).count();
-    let around = same[0] && same[1] && same[5];
-    let mut mended = file.to_vec();
-    mended[place + 2..place + 5].copy_from_slice(&FIXED[2..5]);
-    (around && signature == 2) || read(&mended).is_ok()
-}
-
-/// Looked for over twice a suffix's length, and only where it is not in its
-/// place.
-fn suffix_is_elsewhere(file: &[u8]) -> bool {
-    let end = &file[file.len().saturating_sub(2 * SIZE)..];
-    end.windows(FIXED.len()).any(|bytes| bytes == FIXED)
-}
-
-fn without_header(bytes: &[u8], first: u16) -> Result<(&[u8], Option<u16>), String> {
-    match header(bytes).filter(Header::fits) {
-        None => Ok((bytes, None)),
-        Some(header) if header.block == first => Ok((header.behind, Some(first))),
-        Some(Header { block, .. }) => Err(format!(
+    if block != first {
+        return Err(format!(
             "its PROG header is for block {block}, and the application starts at block {first}; \
-             the file was made for another place"
+             the file was made for another place; {way_out}"
+        ));
+    }
+    no_suffix_inside(behind, way_out)?;
+    no_header_behind(behind, way_out)?;
+    Ok((behind, Some(first)))
+}
+
+fn no_header_behind(image: &[u8], way_out: &str) -> Result<(), String> {
+    match fitting(image) {
+        None => Ok(()),
+        Some(Header { block, .. }) => Err(format!(
+            "behind its PROG header stands another, for block {block}, which would be taken for \
+             firmware; get the file anew; {way_out}"
         )),
     }
 }
@@ -203,6 +213,10 @@ impl Header<'_> {
     }
 }
 
+fn fitting(bytes: &[u8]) -> Option<Header<'_>> {
+    header(bytes).filter(Header::fits)
+}
+
 fn header(bytes: &[u8]) -> Option<Header<'_>> {
     let ([command, _, low, high, length @ ..], behind) =
         bytes.split_first_chunk::<{ command::LENGTH }>()?;
@@ -216,6 +230,7 @@ fn header(bytes: &[u8]) -> Option<Header<'_>> {
 #[cfg(test)]
 mod tests {
     use super::*;
+    use mullirim_files::suffix::Refusal;
     use mullirim_host::second::sum;
     use mullirim_host::tape;
 
@@ -243,11 +258,10 @@ mod tests {
     }
 
     fn wrapping(suffix: Option<Parts>, header: Option<u16>) -> Wrapping {
-        let misfit = None;
         Wrapping {
             suffix,
             header,
-            misfit,
+            ..Wrapping::default()
         }
     }
 
@@ -260,11 +274,26 @@ mod tests {
         taken_off(file, 16).unwrap_err()
     }
 
-    const ALTERED: &str = "the file ends in a DFU suffix whose signature, 55 46 44, was altered; \
-                           get it anew, or add a suffix to it if you know that it is right";
-    const ELSEWHERE: &str = "the file has a DFU suffix near its end and not at it: bytes were cut \
-                             off there, or added; get it anew, or add a suffix to it if you know \
-                             that it is right";
+    const PLAIN: &str = "--plain takes the file as it stands";
+    const OUTER_TOO: &str = "--plain takes the file as it stands, its suffix too";
+    const ALTERED: &str = "ends in a DFU suffix whose fixed bytes, 00 01 55 46 44 10, were altered";
+    const SHIFTED: &str =
+        "has a part of a DFU suffix near its end: bytes were cut off there, or added";
+    const ADDED: &str =
+        "begins with a whole DFU file of 116 bytes, behind which 24 bytes were added";
+
+    /// A DFU file that lost its suffix, in each way, and what is said of it.
+    fn lost() -> [(Vec<u8>, &'static str); 3] {
+        let whole = suffixed(&FIRMWARE);
+        let mut altered = whole.clone();
+        altered[110] ^= 1;
+        let added = [&whole[..], &[0; 24]].concat();
+        [
+            (altered, ALTERED),
+            (whole[..110].to_vec(), SHIFTED),
+            (added, ADDED),
+        ]
+    }
 
     #[test]
     fn a_right_suffix_comes_off() {
@@ -317,74 +346,91 @@ mod tests {
     }
 
     #[test]
-    fn an_altered_signature_is_known_by_the_sum() {
+    fn a_lost_suffix_is_refused_with_a_way_out() {
+        for (file, told) in lost() {
+            let why = format!("the file {told}; get it anew; {PLAIN}");
+            assert_eq!(refused(&file), why);
+        }
+    }
+
+    /// A suffix added to such a file vouches for it, and changes nothing.
+    #[test]
+    fn a_lost_suffix_inside_is_refused_too() {
+        for (file, told) in lost() {
+            let why = format!("the image inside {told}; get the file anew; {OUTER_TOO}");
+            assert_eq!(refused(&suffixed(&file)), why);
+        }
+    }
+
+    #[test]
+    fn a_damaged_suffix_inside_is_refused_too() {
         let file = suffixed(&FIRMWARE);
-        for signature in [*b"UFd", *b"uFD", *b"U\0D", [0; 3], *b"DFU"] {
+        for (at, refusal) in [
+            (111, Refusal::Length),
+            (106, Refusal::Version),
+            (0, Refusal::Sum),
+        ] {
             let mut other = file.clone();
-            other[108..111].copy_from_slice(&signature);
-            assert_eq!(refused(&other), ALTERED);
+            other[at] ^= 1;
+            let message = format!(
+                "the image inside ends in a DFU suffix too, which would be taken for firmware; \
+                 and that one is not right: {}",
+                why(refusal)
+            );
+            assert_eq!(refused(&suffixed(&other)), message, "{at}");
         }
     }
 
+    /// With a header before it a suffix's sum is another, so it counts as
+    /// damaged there, and what hangs on the sum alone is seen behind the header.
     #[test]
-    fn an_altered_signature_is_known_by_what_is_fixed() {
-        let mut file = suffixed(&FIRMWARE);
-        file[3] ^= 1;
-        for signature in [*b"UFd", *b"uFD", *b"U\0D"] {
-            file[108..111].copy_from_slice(&signature);
-            assert_eq!(refused(&file), ALTERED);
+    fn a_suffix_behind_a_header_is_refused_too() {
+        let inner = suffixed(&FIRMWARE);
+        let message = format!(
+            "the image inside ends in a DFU suffix too, which would be taken for firmware; \
+             and that one is not right: {}",
+            why(Refusal::Sum)
+        );
+        assert_eq!(refused(&suffixed(&headed(16, 116, &inner))), message);
+        let [_, _, (added, told)] = lost();
+        let mut unsigned = inner;
+        unsigned[108..111].fill(0);
+        for (image, told) in [(added, told), (unsigned, ALTERED)] {
+            let file = headed(16, image.len() as u32, &image);
+            let why = format!("the image inside {told}; get the file anew; {PLAIN}");
+            assert_eq!(refused(&file), why);
+            let why = format!("the image inside {told}; get the file anew; {OUTER_TOO}");
+            assert_eq!(refused(&suffixed(&file)), why);
         }
-        // Where little of it is left, it could be anything.
-        file[108..111].copy_from_slice(b"U\0\0");
-        assert_eq!(taken(&file).0, file);
-        file[108..111].copy_from_slice(b"UF\0");
-        for fixed in [106, 107, 111] {
-            let mut other = file.clone();
-            other[fixed] ^= 1;
-            assert_eq!(taken(&other).0, other);
-        }
-    }
-
-    #[test]
-    fn a_suffix_that_is_not_at_the_end_is_refused() {
-        let file = suffixed(&FIRMWARE);
-        for cut in 1..=4 {
-            assert_eq!(refused(&file[..file.len() - cut]), ELSEWHERE, "{cut}");
-        }
-        assert_eq!(taken(&file[..file.len() - 5]).0, file[..111]);
-        for added in 1..=22 {
-            let longer = [&file[..], &vec![b'\n'; added]].concat();
-            assert_eq!(refused(&longer), ELSEWHERE, "{added}");
-        }
-        let longer = [&file[..], &[b'\n'; 23]].concat();
-        assert_eq!(taken(&longer).0, longer);
-        // What is under a suffix's length has its place too.
-        assert_eq!(refused(&file[100..112]), ELSEWHERE);
-        assert_eq!(refused(&FIXED), ELSEWHERE);
-    }
-
-    #[test]
-    fn firmware_that_only_ends_so_is_taken_with_a_suffix_of_its_own() {
-        let mut file = suffixed(&FIRMWARE);
-        for byte in [110, 3] {
-            file[byte] ^= 1;
-            assert_eq!(refused(&file), ALTERED);
-            assert_eq!(taken(&suffixed(&file)).0, file);
-        }
-        let cut = &suffixed(&FIRMWARE)[..113];
-        assert_eq!(taken(&suffixed(cut)).0, cut);
     }
 
     #[test]
     fn two_suffixes_are_refused() {
         let why = "the file ends in two DFU suffixes, of which the first would be taken for \
-                   firmware; take one off first";
+                   firmware; take one off first (dfu-suffix -D FILE)";
         assert_eq!(refused(&suffixed(&suffixed(&FIRMWARE))), why);
         assert_eq!(refused(&suffixed(&suffixed(&[]))), why);
         assert_eq!(
             refused(&suffixed(&suffixed(&headed(16, 100, &FIRMWARE)))),
             why
         );
+    }
+
+    #[test]
+    fn what_is_plain_has_nothing_off_and_nothing_vouches_for_it() {
+        let plain = left_on();
+        assert_eq!(
+            (plain.suffix, plain.header, plain.misfit),
+            (None, None, None)
+        );
+        let line = "taken as it stands (--plain), whatever is around it";
+        assert_eq!(plain.told(), [line]);
+        assert_eq!(plain.vouched(), Some("nothing vouches for these bytes"));
+        let none = Some("no DFU suffix: nothing vouches for these bytes");
+        assert_eq!(wrapping(None, None).vouched(), none);
+        assert_eq!(wrapping(None, Some(16)).vouched(), none);
+        assert_eq!(wrapping(Some(PARTS), None).vouched(), None);
+        assert_eq!(wrapping(Some(PARTS), Some(16)).vouched(), None);
     }
 
     #[test]
@@ -398,9 +444,29 @@ mod tests {
         assert_eq!(taken(&headed(16, 0, &[])), (Vec::new(), wrapping));
         let lines = ["PROG header taken off: it is for block 16"];
         assert_eq!(wrapping.told(), lines);
-        // Only one: the other is what it stands before.
-        let twice = headed(16, 108, &headed(16, 100, &FIRMWARE));
-        assert_eq!(taken(&twice).0, headed(16, 100, &FIRMWARE));
+    }
+
+    #[test]
+    fn two_headers_are_refused_for_whatever_block_the_second_is() {
+        for block in [0, 15, 16, 0xFFFF] {
+            let file = headed(16, 108, &headed(block, 100, &FIRMWARE));
+            let why = format!(
+                "behind its PROG header stands another, for block {block}, which would be taken \
+                 for firmware; get the file anew; {PLAIN}"
+            );
+            assert_eq!(refused(&file), why);
+            assert_eq!(refused(&suffixed(&file)), why.replace(PLAIN, OUTER_TOO));
+            let inner = headed(block, 99, &FIRMWARE);
+            assert_eq!(taken(&headed(16, 108, &inner)).0, inner);
+        }
+        // One that does not fit is told as elsewhere.
+        let (_, wrapping) = taken(&headed(16, 108, &headed(16, 99, &FIRMWARE)));
+        let lines = [
+            "PROG header taken off: it is for block 16",
+            "begins like a PROG header for block 16: taken as part of the image",
+            "it tells of 99 bytes, but has 100 behind it",
+        ];
+        assert_eq!(wrapping.told(), lines);
     }
 
     #[test]
@@ -408,11 +474,11 @@ mod tests {
         for block in [0, 15, 17, 16 << 8, 0xFFFF] {
             let why = format!(
                 "its PROG header is for block {block}, and the application starts at block 16; \
-                 the file was made for another place"
+                 the file was made for another place; {PLAIN}"
             );
             let file = headed(block, 100, &FIRMWARE);
             assert_eq!(refused(&file), why);
-            assert_eq!(refused(&suffixed(&file)), why);
+            assert_eq!(refused(&suffixed(&file)), why.replace(PLAIN, OUTER_TOO));
             assert!(taken_off(&file, block).is_ok());
         }
     }
@@ -492,10 +558,13 @@ mod tests {
         flash_refused(&file[100..], what);
         assert_eq!(none_around(&file[..115]), Ok(()));
         assert_eq!(none_around(&file[101..]), Ok(()));
-        for byte in 108..112 {
+        for (byte, said) in (100..116).zip([true; 8].iter().chain([&false; 3]).chain([&true; 5])) {
             let mut other = file.clone();
             other[byte] ^= 1;
-            assert_eq!(none_around(&other), Ok(()), "{byte}");
+            match said {
+                true => flash_refused(&other, what),
+                false => assert_eq!(none_around(&other), Ok(()), "{byte}"),
+            }
         }
         let both = suffixed(&headed(16, 100, &FIRMWARE));
         flash_refused(&both, what);

@@ -6,14 +6,16 @@ mod words;
 
 pub use said::{for_whom, why};
 
+use crate::ending::ending;
 use crate::files::read_up_to;
 use crate::names::shown;
+use crate::place;
 use crate::screen::Screen;
 use crate::store;
 use crate::End;
 use mullirim_files::suffix::{read, write, Refusal, SIZE};
 use std::ffi::OsString;
-use std::io::Write;
+use std::io::{self, Write};
 use std::path::Path;
 use words::{Add, Wish};
 
@@ -21,6 +23,9 @@ use words::{Add, Wish};
 /// message about it.
 const MOST_MIB: usize = 64;
 const MOST: usize = MOST_MIB << 20;
+
+/// A name that Linux has for it.
+const STANDARD_OUTPUT: &str = "/dev/stdout";
 
 pub fn run<W: Write>(words: &[OsString], screen: &mut Screen<W>) -> Result<(), End> {
     let went = match words::parse(words).map_err(End::Usage)? {
@@ -63,12 +68,24 @@ fn add<W: Write>(wanted: &Add, screen: &mut Screen<W>) -> Result<(), String> {
     let file = at_most(&wanted.file, MOST - SIZE, long)?;
     let mut made = vec![0; file.len() + SIZE];
     let count = write(&file, wanted.parts, &mut made).expect("there is room for both");
+    // Asked before another file takes the name.
+    let aside = would_mix(&wanted.out);
     store::write(&wanted.out, &made[..count])?;
-    screen.line(&said::added(&wanted.file, &wanted.out, wanted.parts, count));
-    if read(&file).is_ok() {
-        screen.line(&said::second(&wanted.file));
+    let mut lines = vec![said::added(&wanted.file, &wanted.out, wanted.parts, count)];
+    lines.extend(said::second(&wanted.file, ending(&file)));
+    match aside {
+        // The file is written, so that a message less is no failure.
+        true => drop(writeln!(io::stderr(), "{}", lines.join("\n"))),
+        false => screen.line(&lines.join("\n")),
     }
     Ok(())
+}
+
+/// Whether what is said on standard output could land among the bytes that are
+/// written to this place, or get lost with a file that stood there.
+fn would_mix(out: &Path) -> bool {
+    let device = out.metadata().is_ok_and(|found| !found.is_file());
+    device || place::same(out, Path::new(STANDARD_OUTPUT))
 }
 
 fn refused(path: &Path, refusal: Refusal) -> String {

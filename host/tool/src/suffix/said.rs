@@ -1,5 +1,6 @@
 //! What is said of a suffix, or of a file that has none that is right.
 
+use crate::ending::Ending;
 use crate::names;
 use crate::screen::counted;
 use mullirim_files::suffix::{Parts, Refusal};
@@ -93,12 +94,28 @@ pub fn added(file: &Path, out: &Path, parts: Parts, bytes: usize) -> String {
     )
 }
 
-/// Told apart, since most who add a suffix to a suffix do not mean to.
-pub fn second(file: &Path) -> String {
-    format!(
-        "{} has a suffix already: it stays, and the new one is the second",
+/// Told apart, since most who add a suffix to a suffix do not mean to; nothing
+/// of a file that has none.
+pub fn second(file: &Path, ending: Ending) -> Option<String> {
+    let already = match ending {
+        Ending::Plain => return None,
+        Ending::Whole(..) => "has a suffix already".to_string(),
+        Ending::Damaged(refusal) => format!("has a suffix already, {}", wrong(refusal)),
+        Ending::Lost(lost) => lost.told(),
+    };
+    Some(format!(
+        "{} {already}: it stays, and the new one is the second; a visit refuses such an image",
         names::shown(file)
-    )
+    ))
+}
+
+/// What is not right in a suffix that has its signature.
+fn wrong(refusal: Refusal) -> &'static str {
+    match refusal {
+        Refusal::Length => "whose length is not given as 16 bytes",
+        Refusal::Version => "whose version of DFU is not 0x0100",
+        _ => "whose sum is not that of the bytes before it",
+    }
 }
 
 #[cfg(test)]

@@ -16,7 +16,7 @@ and hold the sum of all before them
   mullirim suffix check FILE    whether the file is whole, and for whom
   mullirim suffix add FILE --device N --product N --vendor N -o OUT
                                 write the file with a suffix behind it to OUT,
-                                which must be another file
+                                another file; what stands there is written over
 
   --json   for show: one JSON object, also where the file is refused
   --help   this text

@@ -1,7 +1,7 @@
 //! A file with the loader started on it.
 
-use super::words::{Kind, Source, Split};
-use crate::files::{read_flash, read_image, Image, BLOCK_BYTES};
+use super::words::{How, Kind, Source, Split};
+use crate::files::{read_flash, read_image, Image, Wanted, BLOCK_BYTES};
 use crate::names::shown;
 use crate::screen::counted;
 use crate::wire::Wire;
@@ -18,10 +18,11 @@ pub struct Held {
     pub wire: Wire,
 }
 
-pub fn hold(source: Source, split: Split) -> Result<Held, String> {
+pub fn hold(source: Source, how: &How) -> Result<Held, String> {
+    let split = how.split;
     let (bytes, wrapping, flash) = match source.kind {
         Kind::Image => {
-            let image = image(&source, split)?;
+            let image = image(&source, how)?;
             let flash = stand(&image.bytes, split);
             (image.bytes.len(), Some(image.wrapping), flash)
         }
@@ -41,9 +42,14 @@ pub fn hold(source: Source, split: Split) -> Result<Held, String> {
     })
 }
 
-fn image(source: &Source, split: Split) -> Result<Image, String> {
-    let room = usize::from(split.blocks - split.first) * BLOCK_BYTES;
-    read_image(&source.path, split.first, room)
+fn image(source: &Source, how: &How) -> Result<Image, String> {
+    let Split { first, blocks } = how.split;
+    let room = usize::from(blocks - first) * BLOCK_BYTES;
+    let wanted = Wanted {
+        path: &source.path,
+        plain: how.plain,
+    };
+    read_image(wanted, first, room)
 }
 
 /// The image as a visit leaves it: after it the application is erased. What is

@@ -27,7 +27,7 @@ pub fn run<W: Write>(words: &[OsString], screen: &mut Screen<W>) -> Result<(), E
 }
 
 fn one(source: Source, how: &How) -> Result<String, String> {
-    let held = hold(source, how.split)?;
+    let held = hold(source, how)?;
     Ok(match how.json {
         true => json::one(&held),
         false => text::one(&held),
@@ -35,7 +35,7 @@ fn one(source: Source, how: &How) -> Result<String, String> {
 }
 
 fn two(old: Source, new: Source, how: &How) -> Result<String, String> {
-    let (old, new) = (hold(old, how.split)?, hold(new, how.split)?);
+    let (old, new) = (hold(old, how)?, hold(new, how)?);
     let difference = difference(&old, &new);
     Ok(match how.json {
         true => json::two(&old, &new, &difference),

@@ -3,7 +3,7 @@
 use crate::names::shown;
 use crate::place;
 use crate::visit::{USUAL_BLOCKS, USUAL_SPLIT};
-use crate::words::{asks_for_help, file, once, unknown, value_of};
+use crate::words::{asks_for_help, file, once, plain_alone, unknown, value_of};
 use mullirim_host::second::MOST_BLOCKS;
 use std::ffi::{OsStr, OsString};
 use std::path::PathBuf;
@@ -22,6 +22,8 @@ mullirim sums: the sums that the dashboard reads of a board
 
   --split A:B   the application starts at block A, and the flash has B blocks
                 (without it: 16:64)
+  --plain       take the files of --image as they stand: nothing is looked
+                for around the image, and nothing is taken off
   --json        the same as one JSON object
   --help        this text
 
@@ -45,6 +47,8 @@ pub enum Wish {
 pub struct How {
     pub split: Split,
     pub json: bool,
+    /// Holds for images, and not for flash files.
+    pub plain: bool,
 }
 
 #[derive(Clone, Copy, Debug, PartialEq)]
@@ -77,6 +81,7 @@ struct Words {
     split: Option<Split>,
     compare: Option<()>,
     json: Option<()>,
+    plain: Option<()>,
 }
 
 pub fn parse(words: &[OsString]) -> Result<Wish, String> {
@@ -105,6 +110,7 @@ impl Words {
             flag @ "--split" => once(&mut self.split, flag, split(flag, rest.next())?)?,
             flag @ "--compare" => once(&mut self.compare, flag, ())?,
             flag @ "--json" => once(&mut self.json, flag, ())?,
+            flag @ "--plain" => once(&mut self.plain, flag, ())?,
             flag if flag.starts_with('-') => return Err(unknown(flag)),
             "" => return Err("the name of a file is empty".to_string()),
             _ => self.source(Kind::Flash, PathBuf::from(word)),
@@ -120,7 +126,12 @@ impl Words {
         let how = How {
             split: self.split.unwrap_or(USUAL),
             json: self.json.is_some(),
+            plain: self.plain.is_some(),
         };
+        let image = |source: &Source| source.kind == Kind::Image;
+        if how.plain && !self.sources.iter().any(image) {
+            return Err(plain_alone());
+        }
         Ok(match (self.compare, &self.sources[..]) {
             (None, [source]) => Wish::One {
                 source: source.clone(),
@@ -208,24 +219,24 @@ mod tests {
     fn one_flash_file_is_enough() {
         assert_eq!((USUAL.first, USUAL.blocks), (16, 64));
         assert!(help().contains("(without it: 16:64)"));
-        let (split, json) = (USUAL, false);
+        let (split, json, plain) = (USUAL, false, false);
         let wish = Wish::One {
             source: source(Kind::Flash, "f"),
-            how: How { split, json },
+            how: How { split, json, plain },
         };
         assert_eq!(parsed(&["f"]), Ok(wish));
     }
 
     #[test]
     fn flags_may_stand_anywhere() {
-        let (split, json) = (SPLIT, true);
+        let (split, json, plain) = (SPLIT, true, false);
         for words in [
             ["--image", "i", "--split", "7:9", "--json"],
             ["--json", "--split", "7:9", "--image", "i"],
         ] {
             let wish = Wish::One {
                 source: source(Kind::Image, "i"),
-                how: How { split, json },
+                how: How { split, json, plain },
             };
             assert_eq!(parsed(&words), Ok(wish));
         }
@@ -233,13 +244,38 @@ mod tests {
 
     #[test]
     fn a_comparison_keeps_the_order_of_its_files() {
-        let (split, json) = (SPLIT, false);
+        let (split, json, plain) = (SPLIT, false, false);
         let wish = Wish::Two {
             old: source(Kind::Image, "z"),
             new: source(Kind::Flash, "a"),
-            how: How { split, json },
+            how: How { split, json, plain },
         };
         let words = ["--image", "z", "--compare", "a", "--split", "7:9"];
+        assert_eq!(parsed(&words), Ok(wish));
+    }
+
+    #[test]
+    fn plain_is_for_images_that_are_named() {
+        let why = "--plain is for an image that is named by --image";
+        refused(&["--plain"], why);
+        refused(&["f", "--plain"], why);
+        refused(&["--compare", "a", "b", "--plain"], why);
+        refused(
+            &["--image", "i", "--plain", "--plain"],
+            "--plain is given twice",
+        );
+        let (split, json, plain) = (USUAL, false, true);
+        let how = || How { split, json, plain };
+        for words in [["--image", "i", "--plain"], ["--plain", "--image", "i"]] {
+            let source = source(Kind::Image, "i");
+            assert_eq!(parsed(&words), Ok(Wish::One { source, how: how() }));
+        }
+        let wish = Wish::Two {
+            old: source(Kind::Flash, "a"),
+            new: source(Kind::Image, "b"),
+            how: how(),
+        };
+        let words = ["--compare", "a", "--image", "b", "--plain"];
         assert_eq!(parsed(&words), Ok(wish));
     }
 
@@ -328,11 +364,11 @@ mod tests {
         for other in ["flash", "hard", "soft", "below/../flash"] {
             refused(&["--compare", &name("flash"), &name(other)], why);
         }
-        let (split, json) = (USUAL, false);
+        let (split, json, plain) = (USUAL, false, false);
         let wish = Wish::Two {
             old: source(Kind::Flash, &name("flash")),
             new: source(Kind::Flash, &name("other")),
-            how: How { split, json },
+            how: How { split, json, plain },
         };
         assert_eq!(
             parsed(&["--compare", &name("flash"), &name("other")]),

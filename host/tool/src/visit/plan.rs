@@ -5,7 +5,7 @@ use super::tariff;
 use super::words::Words;
 use crate::files::{read_flash, read_image, Image, BLOCK_BYTES};
 use crate::names::shown;
-use crate::wrapping::Wrapping;
+use crate::screen::counted;
 use std::path::PathBuf;
 
 /// Where the application starts, unless another block is named.
@@ -18,7 +18,10 @@ pub struct Plan {
     pub first: u16,
     pub image: Vec<u8>,
     pub image_name: String,
-    /// What the image corrects, where that is known, or how it came.
+    /// What a technician should know of the image before anything is done with
+    /// it; nothing of the built-in one.
+    pub found: Vec<String>,
+    /// What the image corrects, where that is known.
     pub notes: Vec<String>,
     pub save: Option<PathBuf>,
     pub after: Option<PathBuf>,
@@ -31,33 +34,38 @@ pub fn judge(words: Words) -> Result<Plan, String> {
         .map_or(tariff::BLOCKS, |flash| blocks_of(flash));
     let first = fit_split(words.split.unwrap_or(USUAL_SPLIT), blocks)?;
     let room = usize::from(blocks - first) * BLOCK_BYTES;
-    let (image, notes) = match &words.image {
-        Some(path) => {
-            let Image { bytes, wrapping } = read_image(path, first, room)?;
-            (bytes, came(&wrapping))
+    let image_name = name(&words.image, "the built-in corrected image");
+    let (image, found) = match words.wanted() {
+        Some(wanted) => {
+            let image = read_image(wanted, first, room)?;
+            let found = found(&image_name, &image);
+            (image.bytes, found)
         }
-        None if words.flash.is_none() => (tariff::corrected(room), tariff::notes(room)),
         None => (tariff::corrected(room), Vec::new()),
+    };
+    let notes = match (&words.flash, &words.image) {
+        (None, None) => tariff::notes(room),
+        _ => Vec::new(),
     };
     Ok(Plan {
         flash_name: name(&words.flash, "the built-in flash with the old tariff"),
         flash: given.unwrap_or_else(|| tariff::flash(first)),
         first,
-        image_name: name(&words.image, "the built-in corrected image"),
+        image_name,
         image,
+        found,
         notes,
         save: words.save,
         after: words.after,
     })
 }
 
-/// What a technician should know of the image's file before trusting it.
-fn came(wrapping: &Wrapping) -> Vec<String> {
-    let mut notes = wrapping.told();
-    if wrapping.suffix.is_none() {
-        notes.push("no DFU suffix: nothing vouches for these bytes".to_string());
-    }
-    notes
+fn found(name: &str, image: &Image) -> Vec<String> {
+    let Image { bytes, wrapping } = image;
+    let mut lines = vec![format!("image {name}, {}", counted(bytes.len(), "byte"))];
+    lines.extend(wrapping.told());
+    lines.extend(wrapping.vouched().map(str::to_string));
+    lines
 }
 
 fn name(path: &Option<PathBuf>, built_in: &str) -> String {

@@ -61,6 +61,9 @@ fn show_start<W: Write>(wire: &Wire, plan: &Plan, screen: &mut Screen<W>) {
         grouped(BLOCK as usize)
     ));
     screen.under(&format!("whole sum {:08X}", wire.session.sums.whole));
+    for line in &plan.found {
+        screen.under(line);
+    }
 }
 
 /// The application is read and saved before anything is erased.
@@ -184,6 +187,7 @@ mod tests {
             first: 2,
             image,
             image_name: "a small image".to_string(),
+            found: vec!["what was found around it".to_string()],
             notes: vec!["one price put right".to_string()],
             save: None,
             after: None,

@@ -1,8 +1,9 @@
 //! The words of the command line.
 
+use crate::files::Wanted;
 use crate::names::shown;
 use crate::place;
-use crate::words::{asks_for_help, file, once, unknown, value_of};
+use crate::words::{asks_for_help, file, once, plain_alone, unknown, value_of};
 use mullirim_host::second::MOST_BLOCKS;
 use std::ffi::OsString;
 use std::path::{Path, PathBuf};
@@ -17,9 +18,11 @@ downloads the corrected image and shows which block sums changed.
                  (without it: a built-in flash of 64 blocks, old tariff)
   --image FILE   the corrected image, at most as long as the application;
                  a DFU suffix and a PROG header are taken off, and a file
-                 whose suffix is damaged is refused
+                 whose suffix is damaged or lost is refused
                  (without it: the built-in image, two prices corrected,
                  cut where the application is shorter)
+  --plain        take the file of --image as it stands: nothing is looked
+                 for around the image, and nothing is taken off
   --split A      the block at which the application starts (without it: 16)
   --save FILE    write the application as it was read back
   --after FILE   write the flash as the visit left it, done or not
@@ -43,6 +46,7 @@ pub enum Wish {
 pub struct Words {
     pub flash: Option<PathBuf>,
     pub image: Option<PathBuf>,
+    pub plain: Option<()>,
     pub split: Option<u16>,
     pub save: Option<PathBuf>,
     pub after: Option<PathBuf>,
@@ -55,22 +59,37 @@ pub fn parse(words: &[OsString]) -> Result<Wish, String> {
     let mut found = Words::default();
     let mut rest = words.iter().cloned();
     while let Some(flag) = rest.next() {
-        found.take(&flag.to_string_lossy(), rest.next())?;
+        found.take(&flag.to_string_lossy(), &mut rest)?;
+    }
+    if found.plain.is_some() && found.image.is_none() {
+        return Err(plain_alone());
     }
     found.files_of_their_own()?;
     Ok(Wish::Visit(found))
 }
 
 impl Words {
-    fn take(&mut self, flag: &str, value: Option<OsString>) -> Result<(), String> {
+    fn take(
+        &mut self,
+        flag: &str,
+        rest: &mut impl Iterator<Item = OsString>,
+    ) -> Result<(), String> {
         match flag {
-            "--flash" => once(&mut self.flash, flag, file(flag, value)?),
-            "--image" => once(&mut self.image, flag, file(flag, value)?),
-            "--split" => once(&mut self.split, flag, block(flag, value)?),
-            "--save" => once(&mut self.save, flag, file(flag, value)?),
-            "--after" => once(&mut self.after, flag, file(flag, value)?),
+            "--flash" => once(&mut self.flash, flag, file(flag, rest.next())?),
+            "--image" => once(&mut self.image, flag, file(flag, rest.next())?),
+            "--plain" => once(&mut self.plain, flag, ()),
+            "--split" => once(&mut self.split, flag, block(flag, rest.next())?),
+            "--save" => once(&mut self.save, flag, file(flag, rest.next())?),
+            "--after" => once(&mut self.after, flag, file(flag, rest.next())?),
             _ => Err(unknown(flag)),
         }
+    }
+
+    /// The file for the image, where one is named.
+    pub fn wanted(&self) -> Option<Wanted<'_>> {
+        let path = self.image.as_deref()?;
+        let plain = self.plain.is_some();
+        Some(Wanted { path, plain })
     }
 
     /// What is written must not fall on what is read or written elsewhere: the
@@ -132,11 +151,12 @@ mod tests {
 
     #[test]
     fn each_flag_has_its_place() {
-        let words = ["--flash", "f", "--image", "i", "--split", "7"];
+        let words = ["--flash", "f", "--plain", "--image", "i", "--split", "7"];
         let more = ["--save", "s", "--after", "a"];
         let found = Words {
             flash: Some("f".into()),
             image: Some("i".into()),
+            plain: Some(()),
             split: Some(7),
             save: Some("s".into()),
             after: Some("a".into()),
@@ -184,6 +204,23 @@ mod tests {
     fn a_flag_comes_once() {
         refused(&["--split", "1", "--split", "1"], "--split is given twice");
         refused(&["--save", "a", "--save", "b"], "--save is given twice");
+        let plain = ["--image", "i", "--plain", "--plain"];
+        refused(&plain, "--plain is given twice");
+    }
+
+    #[test]
+    fn plain_is_for_an_image_that_is_named() {
+        let why = "--plain is for an image that is named by --image";
+        refused(&["--plain"], why);
+        refused(&["--flash", "f", "--plain"], why);
+        for words in [["--image", "i", "--plain"], ["--plain", "--image", "i"]] {
+            let found = Words {
+                image: Some("i".into()),
+                plain: Some(()),
+                ..Words::default()
+            };
+            assert_eq!(parsed(&words), Ok(Wish::Visit(found)));
+        }
     }
 
     fn over(flag: &str, other: &str) -> String {

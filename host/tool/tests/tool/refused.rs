@@ -203,11 +203,16 @@ fn a_flash_with_a_suffix_is_refused_in_every_way() {
     let why = "f: the file ends in a DFU suffix, whose 16 bytes would be taken for firmware; \
                take them off first, or name it by --image if it is an image";
     let flash = some_flash(1, 64);
-    for firmware in [&flash[..], &flash[..49_152 - 16], &flash[..1_008], &[]] {
-        folder.put("f", suffixed(firmware, [0x0100, 0xFFFF, 0x0451]));
+    for firmware in [&flash[..], &flash[..49_152], &flash[..1_008], &[]] {
+        let mut file = suffixed(firmware, [0x0100, 0xFFFF, 0x0451]);
+        folder.put("f", &file);
         for (words, who) in flash_ways("f") {
             folder.refused(&words, 1, &format!("{who}: {why}"));
         }
+        // Also where it is damaged.
+        file[firmware.len()] ^= 1;
+        folder.put("f", &file);
+        folder.refused(&["sums", "f"], 1, &format!("mullirim sums: {why}"));
     }
     folder.put("f", &flash);
     folder.done(&["sums", "f"]);
@@ -220,11 +225,41 @@ fn a_flash_with_a_header_is_refused_in_every_way() {
     let why = "f: the file begins with a PROG header, whose 8 bytes would shift the firmware; \
                take them off first, or name it by --image if it is an image";
     let flash = some_flash(1, 64);
-    for length in [0, 1, 1_016, 20_000, 49_144, 65_528, 65_536] {
+    for length in [0, 1, 1_016, 20_000, 49_152, 65_536] {
         folder.put("f", headed(16, &flash[..length]));
         for (words, who) in flash_ways("f") {
             folder.refused(&words, 1, &format!("{who}: {why}"));
         }
+    }
+}
+
+/// What a flash holds is nobody's to judge; its last application may have been
+/// programmed with a suffix, and its boot area may begin with anything.
+#[test]
+fn whole_blocks_are_a_flash_whatever_they_begin_with_or_end_in() {
+    let folder = Folder::new("blocks");
+    let flash = some_flash(1, 64);
+    folder.put("other", &flash);
+    let mut damaged = suffixed(&flash[..65_520], [1, 2, 3]);
+    damaged[7] ^= 1;
+    let both = headed(16, &suffixed(&flash[..65_512], [1, 2, 3]));
+    let padded = [&suffixed(&flash[..60_000], [1, 2, 3])[..], &[0xFF; 5_520]].concat();
+    for file in [
+        suffixed(&flash[..65_520], [1, 2, 3]),
+        damaged,
+        headed(16, &flash[..65_528]),
+        both,
+        padded,
+    ] {
+        assert_eq!(file.len(), 65_536);
+        folder.put("f", &file);
+        let said = folder.done(&["sums", "f"]);
+        let whole = mullirim_host::second::sum(&file[16_384..]);
+        assert!(said.ends_with(&format!("whole   {whole:08X}\n")), "{said}");
+        folder.done(&["sums", "--compare", "f", "other"]);
+        let words = ["visit", "--flash", "f", "--save", "s"];
+        folder.done(&words);
+        assert_eq!(folder.get("s"), file[16_384..]);
     }
 }
 

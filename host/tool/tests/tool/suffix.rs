@@ -2,7 +2,7 @@
 //! file that it refuses.
 
 use crate::dfu::{suffixed, summed};
-use crate::folder::{some_flash, Folder, Said};
+use crate::folder::{some_flash, Folder, Said, TOOL};
 use std::fs::{self, File};
 use std::os::unix::fs::symlink;
 
@@ -202,25 +202,109 @@ fn what_is_added_is_what_the_numbers_say() {
     assert_eq!(folder.names(), ["f", "out"]);
 }
 
+/// A suffix is added, and the second line says this of the file.
+fn second(folder: &Folder, file: &[u8], already: &str) {
+    folder.put("f", file);
+    let said = folder.done(&adding("f", ["4", "5", "6"], "out"));
+    let bytes = file.len() + 16;
+    let lines = format!(
+        "out: {bytes} bytes, which are f and a suffix for \
+         device 0x0004, product 0x0005, vendor 0x0006\n\
+         f {already}: it stays, and the new one is the second; a visit refuses such an image\n"
+    );
+    assert_eq!(said, lines);
+    assert_eq!(folder.get("out"), suffixed(file, [4, 5, 6]));
+    let object = folder.done(&["suffix", "show", "out", "--json"]);
+    let length = file.len();
+    let awaited =
+        format!("{{\"device\": 4, \"product\": 5, \"vendor\": 6, \"length\": {length}}}\n");
+    assert_eq!(object, awaited);
+}
+
 #[test]
 fn a_second_suffix_is_added_and_told() {
     let folder = Folder::new("second");
     let once = suffixed(b"firmware", [1, 2, 3]);
+    second(&folder, &once, "has a suffix already");
+    for (place, wrong) in [
+        (19, "whose length is not given as 16 bytes"),
+        (14, "whose version of DFU is not 0x0100"),
+        (0, "whose sum is not that of the bytes before it"),
+    ] {
+        let mut damaged = once.clone();
+        damaged[place] ^= 0x20;
+        second(&folder, &damaged, &format!("has a suffix already, {wrong}"));
+    }
+    let mut altered = once.clone();
+    altered[16] = b'u';
+    let why = "ends in a DFU suffix whose fixed bytes, 00 01 55 46 44 10, were altered";
+    second(&folder, &altered, why);
+    let why = "has a part of a DFU suffix near its end: bytes were cut off there, or added";
+    second(&folder, &once[..18], why);
+    let why = "begins with a whole DFU file of 24 bytes, behind which 30 bytes were added";
+    second(&folder, &[&once[..], &[0; 30]].concat(), why);
+    // One of which less is left is none.
+    folder.put("f", &once[..17]);
+    let said = folder.done(&adding("f", ["4", "5", "6"], "out"));
+    assert_eq!(said.lines().count(), 1, "{said}");
+}
+
+/// The longest file of all, full of what looks like a suffix.
+#[test]
+fn a_second_suffix_is_looked_for_in_one_pass() {
+    let folder = Folder::new("pass");
+    let length = 64 * 1_024 * 1_024 - 16;
+    let mut file = [0x00, 0x01, 0x55, 0x46, 0x44, 0x10].repeat(length / 6);
+    file.resize(length, 0);
+    file[length - 100..].fill(0);
+    folder.put("f", &file);
+    let said = folder.done(&adding("f", ["4", "5", "6"], "out"));
+    assert_eq!(said.lines().count(), 1, "{said}");
+}
+
+/// Where OUT is no plain file, or is where standard output goes, what is said
+/// goes to standard error.
+#[test]
+fn what_is_said_is_kept_out_of_what_is_written() {
+    let folder = Folder::new("mixed");
+    let once = suffixed(b"firmware", [1, 2, 3]);
     folder.put("f", &once);
-    let said = folder.done(&adding("f", ["4", "5", "6"], "out"));
-    let lines: Vec<&str> = said.lines().collect();
-    let told = "f has a suffix already: it stays, and the new one is the second";
-    assert_eq!((lines.len(), lines[1]), (2, told));
-    assert_eq!(folder.get("out"), suffixed(&once, [4, 5, 6]));
-    let object = folder.done(&["suffix", "show", "out", "--json"]);
-    let awaited = r#"{"device": 4, "product": 5, "vendor": 6, "length": 24}"#;
-    assert_eq!(object, format!("{awaited}\n"));
-    // One that is damaged is no suffix.
-    let mut damaged = once;
-    damaged[0] ^= 1;
-    folder.put("f", damaged);
-    let said = folder.done(&adding("f", ["4", "5", "6"], "out"));
-    assert_eq!(said.lines().count(), 1);
+    let twice = suffixed(&once, [4, 5, 6]);
+    let told = |out: &str| {
+        format!(
+            "{out}: 40 bytes, which are f and a suffix for device 0x0004, product 0x0005, \
+             vendor 0x0006\nf has a suffix already: it stays, and the new one is the second; \
+             a visit refuses such an image\n"
+        )
+    };
+    let words = |out| adding("f", ["4", "5", "6"], out).join(" ");
+    for (out, to) in [
+        ("/dev/stdout", "| cat > out"),
+        ("/proc/self/fd/1", "| cat > out"),
+        ("/dev/stdout", "> out"),
+        ("out", "> out"),
+        ("./out", ">> out"),
+        ("/dev/fd/3", "3>&1 >/dev/null | cat > out"),
+    ] {
+        folder.put("out", "");
+        let line = format!("{TOOL} {} {to}", words(out));
+        let mut shell = folder.command("sh");
+        let said = Said::new(shell.args(["-c", &line]).output().unwrap());
+        let awaited = (Some(0), "", &*told(out));
+        assert_eq!((said.code, &*said.out, &*said.err), awaited, "{line}");
+        assert_eq!(folder.get("out"), twice, "{line}");
+    }
+    let said = folder.run(&adding("f", ["4", "5", "6"], "/dev/null"));
+    let awaited = (Some(0), "", &*told("/dev/null"));
+    assert_eq!((said.code, &*said.out, &*said.err), awaited);
+    assert_eq!(
+        folder.done(&adding("f", ["4", "5", "6"], "out")),
+        told("out")
+    );
+    assert_eq!(
+        folder.done(&adding("f", ["4", "5", "6"], "new")),
+        told("new")
+    );
 }
 
 #[test]

@@ -15,19 +15,26 @@ fn help_is_shown_everywhere() {
     assert!(visit.starts_with("mullirim visit: a technician's visit"));
     assert_eq!(folder.done(&["visit", "--fast", "--help"]), visit);
     let flags = [
-        "--flash", "--image", "--split", "--save", "--after", "--help",
+        "--flash", "--image", "--plain", "--split", "--save", "--after", "--help",
     ];
     assert!(flags.iter().all(|flag| visit.contains(flag)));
     let sums = folder.done(&["sums", "--help"]);
     assert!(sums.starts_with("mullirim sums: the sums that the dashboard reads"));
     assert_eq!(folder.done(&["sums", "a", "b", "--help"]), sums);
-    let flags = ["--image", "--split", "--compare", "--json", "--help"];
+    let flags = [
+        "--image",
+        "--split",
+        "--compare",
+        "--plain",
+        "--json",
+        "--help",
+    ];
     assert!(flags.iter().all(|flag| sums.contains(flag)));
     let suffix = folder.done(&["suffix", "--help"]);
     assert!(suffix.starts_with("mullirim suffix: the last 16 bytes of DFU files"));
     assert_eq!(folder.done(&["suffix", "add", "-o", "--help"]), suffix);
     let words = ["show", "check", "add", "--device", "--product", "--vendor"];
-    let more = ["-o", "--json", "--help", "64 MiB"];
+    let more = ["-o", "--json", "--help", "64 MiB", "is written over"];
     let mut words = words.iter().chain(&more);
     assert!(words.all(|word| suffix.contains(word)));
     for text in [all, visit, sums, suffix] {

@@ -11,6 +11,8 @@ const FOR_WHOM: &str = "it is for device 0x0100, product 0x0001, vendor 0x1209";
 const HEADER: &str = "PROG header taken off: it is for block 3";
 const UNVOUCHED: &str = "no DFU suffix: nothing vouches for these bytes";
 const BEGINS: &str = "begins like a PROG header for block 3: taken as part of the image";
+const PLAIN: &str = "--plain takes the file as it stands";
+const OUTER_TOO: &str = "--plain takes the file as it stands, its suffix too";
 
 /// A flash of 8 blocks, the application from block 3 on.
 fn site(folder: &Folder) -> Vec<u8> {
@@ -30,25 +32,45 @@ fn visit(folder: &Folder, file: &[u8]) -> Said {
 }
 
 /// The visit is done, leaves the image in the flash, and says this of the file
-/// between its name and the bar.
+/// before it reads anything.
 fn visited(folder: &Folder, file: &[u8], image: &[u8], told: &[&str]) {
     let flash = site(folder);
     let said = visit(folder, file);
+    landed(folder, &flash, &said, image, told);
+    assert_eq!(folder.get("i"), file);
+}
+
+fn landed(folder: &Folder, flash: &[u8], said: &Said, image: &[u8], told: &[&str]) {
     assert_eq!((said.code, &*said.err), (Some(0), ""), "{}", said.out);
     let mut left = flash[..3_072].to_vec();
     left.extend(image);
     left.resize(8_192, 0xFF);
     assert_eq!(folder.get("after"), left);
     assert_eq!(folder.get("save"), flash[3_072..]);
-    assert_eq!(folder.get("i"), file);
-    let lines = said
-        .out
-        .lines()
-        .skip_while(|line| *line != "4 Download   i");
-    let lines: Vec<&str> = lines.skip(1).take(told.len() + 1).map(str::trim).collect();
-    assert_eq!(lines[..told.len()], *told);
-    assert!(lines[told.len()].starts_with("[####"), "{}", said.out);
+    let lines: Vec<&str> = said.out.lines().collect();
+    let start = [
+        "1 Start      flash",
+        "             8 blocks of 1,024 bytes, ",
+    ];
+    assert!(lines[2] == start[0] && lines[3].starts_with(start[1]));
+    assert!(lines[4].starts_with("             whole sum "));
+    let s = if image.len() == 1 { "" } else { "s" };
+    let named = format!("image i, {} byte{s}", grouped(image.len()));
+    let told = [&[&*named], told].concat();
+    let told: Vec<String> = told.iter().map(|l| format!("             {l}")).collect();
+    assert_eq!(lines[5..][..told.len()], told);
+    assert!(lines[5 + told.len()].starts_with("2 Read back  "));
+    let mut lines = lines.iter().skip_while(|line| **line != "4 Download   i");
+    assert_eq!(lines.next(), Some(&"4 Download   i"));
+    assert!(lines.next().unwrap().starts_with("             [####"));
     assert!(said.out.lines().all(|line| line.len() < 80));
+}
+
+fn grouped(number: usize) -> String {
+    match (number / 1_000, number % 1_000) {
+        (0, rest) => rest.to_string(),
+        (thousands, rest) => format!("{thousands},{rest:03}"),
+    }
 }
 
 /// The visit is refused and writes nothing; and so are the sums.
@@ -114,14 +136,19 @@ fn both_are_taken_off() {
     }
 }
 
-/// What is wrapped into what was wrapped already is an image of its own.
 #[test]
-fn one_header_is_taken_off_and_no_second_one() {
+fn two_headers_are_refused() {
     let folder = Folder::new("inner");
-    let inner = headed(3, &some_flash(16, 1)[..100]);
-    visited(&folder, &headed(3, &inner), &inner, &[HEADER, UNVOUCHED]);
-    let file = suffixed(&headed(3, &inner), FOR);
-    visited(&folder, &file, &inner, &[SUFFIX, FOR_WHOM, HEADER]);
+    for block in [3, 4, 0xFFFF] {
+        let file = headed(3, &headed(block, &some_flash(16, 1)[..100]));
+        let why = format!(
+            "behind its PROG header stands another, for block {block}, which would be taken for \
+             firmware; get the file anew"
+        );
+        refused(&folder, &file, &format!("{why}; {PLAIN}"));
+        let whole = suffixed(&file, FOR);
+        refused(&folder, &whole, &format!("{why}; {OUTER_TOO}"));
+    }
 }
 
 #[test]
@@ -167,10 +194,20 @@ fn a_header_for_another_place_is_refused() {
             "its PROG header is for block {block}, and the application starts at block 3; \
              the file was made for another place"
         );
-        refused(&folder, &headed(block, image), &why);
-        refused(&folder, &suffixed(&headed(block, image), FOR), &why);
+        let file = headed(block, image);
+        refused(&folder, &file, &format!("{why}; {PLAIN}"));
+        let whole = suffixed(&file, FOR);
+        refused(&folder, &whole, &format!("{why}; {OUTER_TOO}"));
     }
 }
+
+const LENGTH: &str = "the DFU suffix does not give its own length as 16 bytes: the file was \
+                      altered, or is of a kind that is not known here; get it anew";
+const VERSION: &str = "the DFU suffix does not give 0x0100 as its version of DFU: the file was \
+                       altered, or was made for boards of another kind; get it anew, with a \
+                       suffix of that version";
+const SUM: &str = "the sum in the DFU suffix is not that of the bytes before it: the file was \
+                   altered or cut; get it anew";
 
 #[test]
 fn each_damage_that_the_reader_tells_is_refused() {
@@ -178,25 +215,7 @@ fn each_damage_that_the_reader_tells_is_refused() {
     let image = &some_flash(19, 1)[..100];
     let whole = suffixed(&headed(3, image), FOR);
     let end = whole.len() - 16;
-    let cases = [
-        (
-            end + 11,
-            "the DFU suffix does not give its own length as 16 bytes: the file was \
-                    altered, or is of a kind that is not known here; get it anew",
-        ),
-        (
-            end + 6,
-            "the DFU suffix does not give 0x0100 as its version of DFU: the file was \
-                   altered, or was made for boards of another kind; get it anew, with a suffix \
-                   of that version",
-        ),
-        (
-            end + 15,
-            "the sum in the DFU suffix is not that of the bytes before it: the file was \
-                    altered or cut; get it anew",
-        ),
-    ];
-    for (at, why) in cases {
+    for (at, why) in [(end + 11, LENGTH), (end + 6, VERSION), (end + 15, SUM)] {
         let mut file = whole.clone();
         file[at] ^= 0x1A;
         refused(&folder, &file, why);
@@ -204,55 +223,199 @@ fn each_damage_that_the_reader_tells_is_refused() {
         if at < end + 12 {
             refused(&folder, &summed(file[..end + 12].to_vec()), why);
         }
+        // And a suffix of its own vouches for it, but makes no firmware of it.
+        let why = format!(
+            "the image inside ends in a DFU suffix too, which would be taken for firmware; \
+             and that one is not right: {why}"
+        );
+        refused(&folder, &suffixed(&file, FOR), &why);
     }
+}
+
+/// A file that lost its suffix in some way, and what is said of it.
+fn lost() -> Vec<(Vec<u8>, &'static str)> {
+    let altered = "ends in a DFU suffix whose fixed bytes, 00 01 55 46 44 10, were altered";
+    let shifted = "has a part of a DFU suffix near its end: bytes were cut off there, or added";
+    let newline = "begins with a whole DFU file of 116 bytes, behind which 1 byte was added";
+    let padding = "begins with a whole DFU file of 116 bytes, behind which 908 bytes were added";
+    let whole = suffixed(&some_flash(20, 1)[..100], FOR);
+    let mut lost = Vec::new();
+    for at in 108..111 {
+        let mut file = whole.clone();
+        file[at] ^= 0x20;
+        lost.push((file.clone(), altered));
+        // Also where the image was altered with it.
+        file[50] ^= 1;
+        lost.push((file, altered));
+    }
+    let mut file = whole.clone();
+    file[108..111].fill(0);
+    lost.push((file, altered));
+    for cut in [1, 4, 5, 6] {
+        lost.push((whole[..116 - cut].to_vec(), shifted));
+    }
+    lost.push((whole[100..115].to_vec(), shifted));
+    lost.push(([&whole[..], b"\n"].concat(), newline));
+    lost.push(([&whole[..], &[0xFF; 908]].concat(), padding));
+    lost
 }
 
 #[test]
 fn a_suffix_that_is_no_longer_read_as_one_is_refused_too() {
     let folder = Folder::new("lost");
-    let then = "; get it anew, or add a suffix to it if you know that it is right";
-    let altered = "the file ends in a DFU suffix whose signature, 55 46 44, was altered";
-    let altered = format!("{altered}{then}");
-    let whole = suffixed(&some_flash(20, 1)[..100], FOR);
-    for at in 108..111 {
-        let mut file = whole.clone();
-        file[at] ^= 0x20;
-        refused(&folder, &file, &altered);
-        // Also where the image was altered with it.
-        file[50] ^= 1;
-        refused(&folder, &file, &altered);
+    for (file, told) in lost() {
+        let why = format!("the file {told}; get it anew; {PLAIN}");
+        refused(&folder, &file, &why);
     }
-    let mut file = whole.clone();
-    file[108..111].fill(0);
-    refused(&folder, &file, &altered);
-    let elsewhere = "the file has a DFU suffix near its end and not at it: \
-                     bytes were cut off there, or added";
-    let elsewhere = format!("{elsewhere}{then}");
-    refused(&folder, &whole[..whole.len() - 4], &elsewhere);
-    refused(&folder, &[&whole[..], b"\n"].concat(), &elsewhere);
-    refused(&folder, &whole[100..115], &elsewhere);
 }
 
-/// The way out that the message names, for firmware that only ends so.
+/// `suffix add` is no way to get such an end programmed.
 #[test]
-fn what_is_known_to_be_right_is_taken_once_it_has_a_suffix() {
-    let folder = Folder::new("right");
-    let mut odd = suffixed(&some_flash(21, 1)[..100], FOR);
-    odd[109] = 0;
-    site(&folder);
-    assert_eq!(visit(&folder, &odd).code, Some(1));
+fn a_suffix_behind_a_lost_one_changes_nothing() {
+    let folder = Folder::new("behind");
     let numbers = ["--device", "0x100", "--product", "1", "--vendor", "0x1209"];
-    folder.done(&[&["suffix", "add", "i", "-o", "o"], &numbers[..]].concat());
-    let file = folder.get("o");
-    assert_eq!(file, suffixed(&odd, FOR));
-    visited(&folder, &file, &odd, &[SUFFIX, FOR_WHOM]);
+    for (file, told) in lost() {
+        folder.put("i", &file);
+        folder.done(&[&["suffix", "add", "i", "-o", "o"], &numbers[..]].concat());
+        let whole = folder.get("o");
+        assert_eq!(whole, suffixed(&file, FOR));
+        std::fs::remove_file(folder.path().join("o")).unwrap();
+        let why = format!("the image inside {told}; get the file anew; {OUTER_TOO}");
+        refused(&folder, &whole, &why);
+    }
+}
+
+/// What a header stands before is judged as a file is.
+#[test]
+fn a_suffix_behind_a_header_is_refused() {
+    let folder = Folder::new("under");
+    let dfu = suffixed(&some_flash(20, 1)[..100], FOR);
+    let why = format!(
+        "the image inside ends in a DFU suffix too, which would be taken for firmware; \
+         and that one is not right: {SUM}"
+    );
+    refused(&folder, &suffixed(&headed(3, &dfu), FOR), &why);
+    let file = headed(3, &[&dfu[..], &[0xFF; 100]].concat());
+    let why = "the image inside begins with a whole DFU file of 116 bytes, behind which \
+               100 bytes were added; get the file anew";
+    refused(&folder, &file, &format!("{why}; {PLAIN}"));
+    let whole = suffixed(&file, FOR);
+    refused(&folder, &whole, &format!("{why}; {OUTER_TOO}"));
+}
+
+const PLAINLY: [&str; 2] = [
+    "taken as it stands (--plain), whatever is around it",
+    "nothing vouches for these bytes",
+];
+
+/// The way out that messages name: all of the file lands, whatever it is.
+#[test]
+fn with_plain_a_file_is_taken_as_it_stands() {
+    let folder = Folder::new("stands");
+    let image = &some_flash(21, 1)[..100];
+    let dfu = suffixed(image, FOR);
+    let mut files: Vec<Vec<u8>> = lost().into_iter().map(|(file, _)| file).collect();
+    files.extend([
+        image.to_vec(),
+        dfu.clone(),
+        suffixed(&dfu, FOR),
+        headed(3, image),
+        headed(4, image),
+        headed(3, &headed(3, image)),
+        suffixed(&headed(3, &dfu), FOR),
+        [&dfu[..115], &[0]].concat(),
+        headed(3, image)[..50].to_vec(),
+    ]);
+    let flash = site(&folder);
+    for file in files {
+        folder.put("i", &file);
+        let said = folder.run(&[&VISIT[..], &["--plain"]].concat());
+        landed(&folder, &flash, &said, &file, &PLAINLY);
+        let length = grouped(file.len());
+        let words = ["sums", "--plain", "--split", "3:8"];
+        let said = folder.done(&[&words[..], &["--image", "i"]].concat());
+        let head = format!(
+            "i: an image of {length} bytes, as it would stand in a flash of 8 blocks\n     {}\n\
+             the application from block 3 to 7\n",
+            PLAINLY[0]
+        );
+        assert!(said.starts_with(&head), "{said}");
+        // What stands in the flash after the visit is what the sums foretold.
+        let more = ["--compare", "after", "--image", "i"];
+        let said = folder.done(&[&words[..], &more].concat());
+        assert!(said.contains("\n0 blocks differ, 5 do not\n"), "{said}");
+    }
+}
+
+#[test]
+fn plain_is_measured_too_and_only_for_images() {
+    let folder = Folder::new("plainly");
+    site(&folder);
+    folder.put("i", vec![7; 5_121]);
+    let why = "i: the image has 5,121 bytes, and the application holds 5,120 bytes";
+    let words = [&VISIT[..], &["--plain"]].concat();
+    folder.refused(&words, 1, &format!("mullirim visit: {why}"));
+    let words = ["sums", "--plain", "--split", "3:8", "--image", "i"];
+    folder.refused(&words, 1, &format!("mullirim sums: {why}"));
+    let why = "--plain is for an image that is named by --image (--help shows how)";
+    for words in [
+        &["visit", "--plain"][..],
+        &["visit", "--plain", "--flash", "flash", "--split", "3"],
+        &["sums", "--plain", "flash", "--split", "3:8"],
+        &["sums", "--plain", "--compare", "flash", "i"],
+    ] {
+        folder.refused(words, 2, &format!("mullirim {}: {why}", words[0]));
+    }
+    assert_eq!(folder.names(), ["flash", "i"]);
+}
+
+/// An application may begin like the very header that would load it.
+#[test]
+fn what_is_saved_is_put_back_exactly_with_plain() {
+    let folder = Folder::new("back");
+    let application = headed(3, &some_flash(21, 5)[..5_112]);
+    let flash = [&some_flash(22, 3)[..], &application].concat();
+    folder.put("flash", &flash);
+    let words = |image, save, after| {
+        let files = [
+            "visit", "--flash", "flash", "--split", "3", "--image", image,
+        ];
+        [&files[..], &["--save", save, "--after", after]].concat()
+    };
+    folder.put("new", [7; 40]);
+    folder.done(&words("new", "save", "changed"));
+    assert_eq!(folder.get("save"), application);
+    std::fs::rename(folder.path().join("changed"), folder.path().join("flash")).unwrap();
+    let said = folder.done(&[&words("save", "s", "back")[..], &["--plain"]].concat());
+    assert!(said.contains(PLAINLY[0]), "{said}");
+    assert_eq!(folder.get("back"), flash);
+    // Without it, the beginning comes off, and the visit says so.
+    let said = folder.done(&words("save", "s", "short"));
+    assert!(said.contains(HEADER), "{said}");
+    assert_eq!(folder.get("short")[3_072..][..5_112], application[8..]);
+}
+
+/// What is known of the file stands there also where the visit ends early.
+#[test]
+fn what_was_found_is_told_before_anything_is_read() {
+    let folder = Folder::new("early");
+    site(&folder);
+    folder.put("i", suffixed(&headed(3, &[7; 40]), FOR));
+    let words = ["visit", "--flash", "flash", "--image", "i", "--split", "3"];
+    let said = folder.run(&[&words[..], &["--save", "none/save"]].concat());
+    assert_eq!(said.code, Some(1));
+    let lines = ["image i, 40 bytes", SUFFIX, FOR_WHOM, HEADER];
+    let lines: String = lines.map(|line| format!("             {line}\n")).concat();
+    let order = format!("{lines}2 Read back  ");
+    assert!(said.out.contains(&order), "{}", said.out);
+    assert!(!said.out.contains("3 Erase"));
 }
 
 #[test]
 fn two_suffixes_are_refused() {
     let folder = Folder::new("two");
     let why = "the file ends in two DFU suffixes, of which the first would be taken for \
-               firmware; take one off first";
+               firmware; take one off first (dfu-suffix -D FILE)";
     let image = &some_flash(22, 1)[..100];
     let twice = |file: &[u8]| suffixed(&suffixed(file, FOR), [7, 8, 9]);
     refused(&folder, &twice(image), why);
@@ -286,6 +449,36 @@ fn no_damaged_byte_of_a_dfu_file_is_programmed() {
         std::fs::remove_file(folder.path().join("save")).unwrap();
         std::fs::remove_file(folder.path().join("after")).unwrap();
     }
+}
+
+/// All else that one slip, a cut or padding does to the end of a file.
+#[test]
+fn no_slip_at_the_end_of_a_dfu_file_is_programmed() {
+    let folder = Folder::new("slip");
+    let whole = suffixed(&some_flash(23, 1)[..40], FOR);
+    let mut slips: Vec<Vec<u8>> = (1..=6).map(|cut| whole[..56 - cut].to_vec()).collect();
+    for at in 40..56 {
+        let (before, behind) = whole.split_at(at);
+        slips.push([before, &behind[1..]].concat());
+        slips.push([before, b"\r", behind].concat());
+        if let [one, other, rest @ ..] = behind {
+            slips.push([before, &[*other, *one], rest].concat());
+        }
+    }
+    for byte in [0x00, 0xFF, 0x1A, 0x0A] {
+        let behind = [1, 22, 23, 128, 1_024].map(|behind| vec![byte; behind]);
+        slips.extend(behind.map(|behind| [&whole[..], &behind].concat()));
+    }
+    slips.retain(|slip| *slip != whole);
+    site(&folder);
+    for slip in &slips {
+        let said = visit(&folder, slip);
+        assert_eq!((said.code, &*said.out), (Some(1), ""), "{slip:?}");
+        assert!(said.err.contains("; get it anew"), "{}", said.err);
+        assert_eq!(folder.names(), ["flash", "i"]);
+    }
+    // Two neighbours are the same, of device and product.
+    assert_eq!(slips.len(), 6 + 16 + 16 + 14 + 20);
 }
 
 /// A file without a suffix has nothing to be held to: what lands is what it
@@ -354,11 +547,11 @@ fn an_upload_is_taken_and_so_is_what_a_visit_saves() {
     assert_eq!(saved.len(), 49_152);
     folder.put("u", headed(16, &saved));
     let said = folder.done(&["visit", "--image", "u", "--after", "a"]);
-    let told = "4 Download   u\n             PROG header taken off: it is for block 16\n";
+    let told = "image u, 49,152 bytes\n             PROG header taken off: it is for block 16\n";
     assert!(said.contains(told), "{said}");
     assert_eq!(folder.get("a")[16_384..], saved);
     let said = folder.done(&["visit", "--image", "s", "--after", "b"]);
-    let told = format!("4 Download   s\n             {UNVOUCHED}\n");
+    let told = format!("image s, 49,152 bytes\n             {UNVOUCHED}\n");
     assert!(said.contains(&told), "{said}");
     assert_eq!(folder.get("a"), folder.get("b"));
 }
