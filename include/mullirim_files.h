@@ -21,9 +21,9 @@ extern "C" {
 /* The last 16 bytes of a DFU file. */
 #define MULLIRIM_SUFFIX_SIZE 16u
 
-/* Why a file is refused: the first of these that holds. */
+/* Why a file is refused: the first of these that holds, if any. */
 enum mullirim_suffix_refusal {
-    MULLIRIM_SUFFIX_ACCEPTED = 0,
+    MULLIRIM_SUFFIX_ACCEPTED = 0,  /* none does: it is a file with its suffix */
     MULLIRIM_SUFFIX_SHORT = 1,     /* it has under 16 bytes */
     MULLIRIM_SUFFIX_SIGNATURE = 2, /* there is no 55 46 44 at its place */
     MULLIRIM_SUFFIX_LENGTH = 3,    /* the suffix gives itself another length than 16 */

@@ -82,12 +82,20 @@ pub struct Outcome {
     pub session: Session,
 }
 
+/// Where a sum starts.
+pub const NOTHING_SUMMED: u32 = 0xFFFF_FFFF;
+
 /// The sum of the DFU file suffix, bit by bit.
 pub fn sum(bytes: &[u8]) -> u32 {
-    bytes.iter().fold(0xFFFF_FFFF, |rest, byte| {
-        (0..8).fold(rest ^ u32::from(*byte), |rest, _| {
-            (rest >> 1) ^ (0xEDB8_8320 * (rest & 1))
-        })
+    bytes
+        .iter()
+        .fold(NOTHING_SUMMED, |rest, byte| taken_in(rest, *byte))
+}
+
+/// A sum with one more byte.
+pub fn taken_in(rest: u32, byte: u8) -> u32 {
+    (0..8).fold(rest ^ u32::from(byte), |rest, _| {
+        (rest >> 1) ^ (0xEDB8_8320 * (rest & 1))
     })
 }
 

@@ -5,11 +5,11 @@ use mathlib.Core.Path.{_≡_, refl, sym, ap, ap₂, _∙_}
 use Prim.Native.Nat.{ℕ, _+_, _-_, _≤_, _<_}
 use native.Mathlib.Omega.{arith}
 use lib.ListN.{length, take, drop, length-append, length-drop, drop-of-length-le}
-use lib.Seq.{take-all, take-length, drop-drop, take-append-seam, drop-append-add}
+use lib.Seq.{paste, take-all, take-length, drop-drop, take-append-seam, drop-append-add}
 use borrow.Author.Tests.{lt-ltb, le-ltb}
 use Rattle.suffix.specs.declared.Parts.{Parts}
 use Rattle.suffix.specs.declared.Writing.the-variants.{Wrote, NoRoom}
-use Rattle.suffix.specs.Suffix.{frontSize, frontOf, sumBytes, suffixed, replaced, sizeWith, laid, left, writeOf}
+use Rattle.suffix.specs.Suffix.{frontSize, frontOf, sumBytes, suffixed, sizeWith, laid, left, writeOf}
 
 -- a negated answer tells of the test that it is promised to be
 pub told-not : (r t v : Bool) → r ≡ t → not r ≡ v → not t ≡ v
@@ -19,27 +19,26 @@ told-not r t v p q = ap not (sym p) ∙ q
 pub put-rest :
     (buffer bytes new : List ℕ) (at : ℕ) → at ≤ length buffer
     → new ≡ take (length bytes) bytes ++ drop (length bytes) (take (length buffer - at) (drop at buffer))
-    → take at buffer ++ (new ++ drop (length buffer - at) (drop at buffer)) ≡ replaced buffer at bytes
-unfolding replaced
+    → take at buffer ++ (new ++ drop (length buffer - at) (drop at buffer)) ≡ paste buffer at bytes (length bytes)
 put-rest buffer bytes new at h e =
     let long : length (drop at buffer) ≤ length buffer - at = omega (arith, length-drop at buffer) in
+    let all : List ℕ = take (length bytes) bytes in
     ap₂ (λ (x y : List ℕ). take at buffer ++ (x ++ y))
     (e
-    ∙ ap₂ _++_ (take-length bytes)
+    ∙ ap (λ (x : List ℕ). all ++ x)
     (ap (drop (length bytes)) (take-all (length buffer - at) (drop at buffer) long) ∙ drop-drop (length bytes) at buffer))
     (drop-of-length-le (drop at buffer) long)
-    ∙ ap (λ (x : List ℕ). take at buffer ++ x) (append-nil (bytes ++ drop (at + length bytes) buffer))
-    ∙ sym (append-assoc (take at buffer) bytes (drop (at + length bytes) buffer))
+    ∙ ap (λ (x : List ℕ). take at buffer ++ x) (append-nil (all ++ drop (at + length bytes) buffer))
+    ∙ sym (append-assoc (take at buffer) all (drop (at + length bytes) buffer))
 
 -- what stands at a buffer's front grows by what is put behind it
 grows :
     (buffer done bytes now : List ℕ) (at : ℕ) → now ≡ done ++ drop (length done) buffer → at ≡ length done
-    → replaced now at bytes ≡ (done ++ bytes) ++ drop (length (done ++ bytes)) buffer
-unfolding replaced
+    → paste now at bytes (length bytes) ≡ (done ++ bytes) ++ drop (length (done ++ bytes)) buffer
 grows buffer done bytes now at e h =
-    ap₂ (λ (l : List ℕ) (k : ℕ). take k l ++ bytes ++ drop (k + length bytes) l) e h
-    ∙ ap₂ (λ (x y : List ℕ). x ++ bytes ++ y)
-    (take-append-seam done (drop (length done) buffer))
+    ap₂ (λ (l : List ℕ) (k : ℕ). paste l k bytes (length bytes)) e h
+    ∙ ap₂ (λ (x y : List ℕ). x ++ y)
+    (ap₂ _++_ (take-append-seam done (drop (length done) buffer)) (take-length bytes))
     (drop-append-add done (drop (length done) buffer) (length bytes)
     ∙ drop-drop (length bytes) (length done) buffer
     ∙ ap (λ (n : ℕ). drop n buffer) (sym (length-append done bytes)))
@@ -47,7 +46,8 @@ grows buffer done bytes now at e h =
 -- the file, the front and the sum, one behind the other
 pub laid-by :
     (file : List ℕ) (p : Parts) (front sum b b1 b2 b3 : List ℕ) → front ≡ frontOf p → sum ≡ sumBytes (file ++ front)
-    → b1 ≡ replaced b 0 file → b2 ≡ replaced b1 (length file) front → b3 ≡ replaced b2 (length file + frontSize) sum
+    → b1 ≡ paste b 0 file (length file) → b2 ≡ paste b1 (length file) front (length front)
+    → b3 ≡ paste b2 (length file + frontSize) sum (length sum)
     → b3 ≡ laid file p b
 unfolding frontOf sumBytes suffixed laid
 laid-by file p front sum b b1 b2 b3 f s e1 e2 e3 =

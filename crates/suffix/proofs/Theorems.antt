@@ -1,9 +1,9 @@
 -- What is promised of the suffix, proved. Assumes nothing.
-use Prim.Native.Nat.{ℕ, zero, suc, _+_, _-_, _/_, _^_, _≤_, _<_}
+use Prim.Native.Nat.{ℕ, zero, suc, _+_, _-_, _/_, _^_, _<_}
 use mathlib.Core.List.{List, [], _∷_, _++_, append-assoc, append-nil}
 use mathlib.Core.Path.{_≡_, refl, sym, ap, ap₂, _∙_, subst}
 use native.Mathlib.Decide.{decLt}
-use native.Mathlib.Nat.{mod-lt}
+use native.Mathlib.Nat.{mod-lt, not-le-of-lt}
 use native.Mathlib.Omega.{arith}
 use borrow.Author.Tests.{lt-ltb, eq-eqb}
 use lib.ListN.{length, take, drop, length-append, length-drop, take-append-drop}
@@ -55,10 +55,10 @@ too-few :
     (bytes : List ℕ) → length bytes < suffixSize → (r : Reading) → (refusalNumber r ≡ 0 → ⊥) → Says r bytes → readOf bytes ≡ r
 too-few bytes l (Suffixed p n) refusal h = absurd (refusal refl)
 too-few bytes l Short refusal h = short-is bytes l
-too-few bytes l Signature refusal h = let long : 16 ≤ length bytes = h .0 in absurd (omega arith)
-too-few bytes l Length refusal h = let long : 16 ≤ length bytes = h .0 in absurd (omega arith)
-too-few bytes l Version refusal h = let long : 16 ≤ length bytes = h .0 in absurd (omega arith)
-too-few bytes l Sum refusal h = let long : 16 ≤ length bytes = h .0 in absurd (omega arith)
+too-few bytes l Signature refusal h = absurd (not-le-of-lt l (h .0))
+too-few bytes l Length refusal h = absurd (not-le-of-lt l (h .0))
+too-few bytes l Version refusal h = absurd (not-le-of-lt l (h .0))
+too-few bytes l Sum refusal h = absurd (not-le-of-lt l (h .0))
 
 refused : (bytes : List ℕ) → Bytes bytes → (r : Reading) → (refusalNumber r ≡ 0 → ⊥) → Says r bytes → readOf bytes ≡ r
 refused bytes b r refusal h =

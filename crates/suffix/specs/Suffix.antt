@@ -1,5 +1,5 @@
 -- A file with its suffix; what reading any bytes comes to, and what writing leaves.
-use Prim.Native.Nat.{ℕ, _+_, _-_}
+use Prim.Native.Nat.{ℕ, _+_, _-_, _≤_}
 use mathlib.Core.Bool.{Bool, true, cond, not, _&&_}
 use mathlib.Core.List.{List, [], _∷_, _++_}
 use lib.Dec.{eqb, ltb}
@@ -36,6 +36,10 @@ sumBytes before = bytes4 (crcOf before)
 -- a file with its suffix
 unfoldable pub suffixed : List ℕ → Parts → List ℕ
 suffixed file p = (file ++ frontOf p) ++ sumBytes (file ++ frontOf p)
+
+-- as many bytes as a suffix has stand from a place on
+abbrev pub StandsAt : List ℕ → ℕ → Type 0
+StandsAt bytes at = at + suffixSize ≤ length bytes
 
 -- what stands where a suffix would: the numbers, the signature, the length, the version, and whether the sum is right
 abbrev pub partsAt : List ℕ → ℕ → Parts
@@ -79,10 +83,6 @@ refusalNumber Signature = 2
 refusalNumber Length = 3
 refusalNumber Version = 4
 refusalNumber Sum = 5
-
--- a buffer with other bytes from a place on
-unfoldable pub replaced : List ℕ → ℕ → List ℕ → List ℕ
-replaced buffer at bytes = take at buffer ++ bytes ++ drop (at + length bytes) buffer
 
 -- all that a writing leaves
 pub record Left : Type 0 where

@@ -4,12 +4,13 @@ ghost use Prim.Native.Nat.{_+_, _≤_};
 ghost use mathlib.Core.Path.{_≡_};
 ghost use mathlib.Core.List.{_++_};
 ghost use lib.ListN.{length};
-ghost use Rattle.suffix.specs.Suffix.{signedAt, sizedAt, versionedAt, summedAt, partsAt, vouchedAt, readAt, readOf};
-ghost use Rattle.suffix.specs.Suffix.{refusalNumber, frontOf, sumBytes, replaced, sizeWith, laid, left, writeOf};
+ghost use lib.Seq.{paste};
+ghost use Rattle.suffix.specs.Suffix.{StandsAt, signedAt, sizedAt, versionedAt, summedAt, partsAt, vouchedAt, readAt, readOf};
+ghost use Rattle.suffix.specs.Suffix.{refusalNumber, frontOf, sumBytes, sizeWith, laid, left, writeOf};
 
-// The bytes of a suffix, and those of them that its sum covers.
+// The bytes of a suffix.
 const SIZE: usize = 16;
-
+// Those of them that its sum covers.
 const FRONT: usize = 12;
 // bcdDFU: the standard's version, 1.0.
 const VERSION: u32 = 0x0100;
@@ -42,7 +43,7 @@ pub enum Writing {
 }
 
 fn signed(file: &[u8], at: usize) -> bool
-    requires { ⌜ at + 16 ≤ length (now file) ⌝ }
+    requires { ⌜ StandsAt (now file) at ⌝ }
     ensures { λ r. ⌜ r ≡ signedAt (now (file .entry)) at ⌝ }
 {
     (file[at + 8] == SIGNATURE[0])
@@ -51,21 +52,21 @@ fn signed(file: &[u8], at: usize) -> bool
 }
 
 fn sized(file: &[u8], at: usize) -> bool
-    requires { ⌜ at + 16 ≤ length (now file) ⌝ }
+    requires { ⌜ StandsAt (now file) at ⌝ }
     ensures { λ r. ⌜ r ≡ sizedAt (now (file .entry)) at ⌝ }
 {
     file[at + 11] == SIZE as u8
 }
 
 fn versioned(file: &[u8], at: usize) -> bool
-    requires { ⌜ at + 16 ≤ length (now file) ⌝ }
+    requires { ⌜ StandsAt (now file) at ⌝ }
     ensures { λ r. ⌜ r ≡ versionedAt (now (file .entry)) at ⌝ }
 {
     numbers::word(file, at + 6) == VERSION
 }
 
 fn summed(file: &[u8], at: usize) -> bool
-    requires { ⌜ at + 16 ≤ length (now file) ⌝ }
+    requires { ⌜ StandsAt (now file) at ⌝ }
     ensures { λ r. ⌜ r ≡ summedAt (now (file .entry)) at ⌝ }
 {
     let end = at + FRONT;
@@ -73,7 +74,7 @@ fn summed(file: &[u8], at: usize) -> bool
 }
 
 fn parts_at(file: &[u8], at: usize) -> Parts
-    requires { ⌜ at + 16 ≤ length (now file) ⌝ }
+    requires { ⌜ StandsAt (now file) at ⌝ }
     ensures { λ r. ⌜ r ≡ partsAt (now (file .entry)) at ⌝ }
 {
     Parts {
@@ -85,7 +86,7 @@ fn parts_at(file: &[u8], at: usize) -> Parts
 
 // What a suffix of the right form comes to: one of this version whose sum is right, or a refusal.
 fn vouched_at(file: &[u8], at: usize) -> Reading
-    requires { ⌜ at + 16 ≤ length (now file) ⌝ }
+    requires { ⌜ StandsAt (now file) at ⌝ }
     ensures { λ r. ⌜ r ≡ vouchedAt (now (file .entry)) at ⌝ }
 {
     if !versioned(file, at) {
@@ -101,7 +102,7 @@ fn vouched_at(file: &[u8], at: usize) -> Reading
 }
 
 fn read_at(file: &[u8], at: usize) -> Reading
-    requires { ⌜ at + 16 ≤ length (now file) ⌝ }
+    requires { ⌜ StandsAt (now file) at ⌝ }
     ensures { λ r. ⌜ r ≡ readAt (now (file .entry)) at ⌝ }
 {
     if !signed(file, at) {
@@ -174,7 +175,7 @@ fn sum_bytes(file: &[u8], front: &[u8]) -> [u8; 4]
 
 fn put(bytes: &[u8], buffer: &mut [u8], at: usize)
     requires { ⌜ at + length (now bytes) ≤ length (now buffer) ⌝ }
-    ensures { λ _. ⌜ now (buffer .exit) ≡ replaced (now (buffer .entry)) at (now (bytes .entry)) ⌝ }
+    ensures { λ _. ⌜ now (buffer .exit) ≡ paste (now (buffer .entry)) at (now (bytes .entry)) (length (now (bytes .entry))) ⌝ }
 {
     bytes::copy(bytes, &mut buffer[at..]);
 }

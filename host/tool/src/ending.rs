@@ -4,6 +4,7 @@
 
 use crate::screen::counted;
 use mullirim_files::suffix::{read, Parts, Refusal, SIZE};
+use mullirim_host::second::{taken_in, NOTHING_SUMMED};
 
 /// What is the same in every suffix: bcdDFU, signature and length. Behind it
 /// stands only the sum.
@@ -127,21 +128,14 @@ fn whole_file_within(file: &[u8]) -> Option<usize> {
     if !file.windows(FIXED.len()).any(|bytes| bytes == FIXED) {
         return None;
     }
-    let mut sum = u32::MAX;
+    let mut sum = NOTHING_SUMMED;
     for (length, byte) in (1..).zip(file) {
-        sum = summed(sum, *byte);
+        sum = taken_in(sum, *byte);
         if sum == 0 && read(&file[..length]).is_ok() {
             return Some(length);
         }
     }
     None
-}
-
-/// The sum with one more byte.
-fn summed(sum: u32, byte: u8) -> u32 {
-    (0..8).fold(sum ^ u32::from(byte), |sum, _| {
-        (sum >> 1) ^ (0xEDB8_8320 * (sum & 1))
-    })
 }
 
 #[cfg(test)]

@@ -20,7 +20,10 @@ same-length : tie.Need-same-length
 same-length c = search needs
 
 returns : tie.Need-returns
-returns c = put-rest _ _ _ _ (search needs) (c .before .before .copy .ensures .1)
+returns c =
+    let copied = c .before .before in
+    let a = copied .before .before .before .before .args in
+    put-rest (a .buffer .now) (a .bytes .now) _ (a .at) (search needs) (copied .copy .ensures .1)
 
 pub put-spec : {M : Type 1} → statement M
 put-spec =
