@@ -190,7 +190,24 @@ laid! {
     }
 }
 
-pub const STRUCTS: [Struct; 11] = [
+laid! {
+    /// What reading a bundle hands back: a refusal's number or zero, and how
+    /// many images there are; none where it was refused.
+    pub struct BundleFound {
+        pub refused: u32,
+        pub count: usize,
+    }
+}
+
+laid! {
+    /// A part of a file.
+    pub struct Part {
+        pub from: usize,
+        pub length: usize,
+    }
+}
+
+pub const STRUCTS: [Struct; 13] = [
     Board::TABLE,
     Phase::TABLE,
     Download::TABLE,
@@ -202,6 +219,8 @@ pub const STRUCTS: [Struct; 11] = [
     Parts::TABLE,
     SuffixFound::TABLE,
     Written::TABLE,
+    BundleFound::TABLE,
+    Part::TABLE,
 ];
 
 impl Session {

@@ -2,5 +2,6 @@
 //! C header (`include/mullirim_files.h`) asks of a caller the borrows here
 //! grant by themselves.
 
+pub mod bundle;
 mod raw;
 pub mod suffix;
