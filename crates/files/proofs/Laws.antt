@@ -2,10 +2,8 @@
 use Prim.Native.Nat.{ℕ, zero, suc}
 use mathlib.Core.List.{List, [], _∷_}
 use mathlib.Core.Path.{_≡_, refl, sym, ap, _∙_}
-use native.Mathlib.Omega.{arith}
-use mathlib.Core.Logic.{⊎-elim}
 use denote.Enum.Declared.{tagOf}
-use types.Run.{OneOf}
+use types.Run.{OneOf, miss}
 use Rattle.suffix.proofs.Reading.{the-type}
 use Rattle.suffix.specs.declared.Parts.{Parts}
 use Rattle.suffix.specs.declared.Reading.{Reading}
@@ -20,9 +18,7 @@ use Rattle.files.specs.Files.{refusedBy, toldRead, toldWritten, atHost, 
 -- every reading but the first is heard by its number
 pub heard : (r : Reading) → OneOf (1 ∷ 2 ∷ 3 ∷ 4 ∷ 5 ∷ []) (tagOf the-type r) → refusedBy r ≡ toldRead r
 unfolding toldRead
-heard (Suffixed p n) h =
-    absurd
-    (⊎-elim (λ e. omega arith) (⊎-elim (λ e. omega arith) (⊎-elim (λ e. omega arith) (⊎-elim (λ e. omega arith) (λ e. omega arith)))) h)
+heard (Suffixed p n) h = absurd (miss (1 ∷ 2 ∷ 3 ∷ 4 ∷ 5 ∷ []) 0 tt h)
 heard Short h = refl
 heard Signature h = refl
 heard Length h = refl

@@ -1,2 +1,3 @@
 -- Laws of what a host hears of files.
 pub mod Laws
+pub mod Bundles

@@ -7,6 +7,10 @@ use Rattle.suffix.specs.declared.Reading.the-variants.{Suffixed, Short, Signatu
 use Rattle.suffix.specs.declared.Writing.{Writing}
 use Rattle.suffix.specs.declared.Writing.the-variants.{Wrote, NoRoom}
 use Rattle.suffix.specs.Suffix.{refusalNumber, Left, writeOf}
+use Rattle.bundle.specs.declared.Reading as BundleReading
+use Rattle.bundle.specs.declared.Writing as BundleWriting
+use Rattle.bundle.specs.Bundle as Bundle
+use Rattle.files.specs.declared.BundleFound.{BundleFound}
 use Rattle.files.specs.declared.SuffixFound.{SuffixFound}
 use Rattle.files.specs.declared.Written.{Written}
 
@@ -40,3 +44,15 @@ unfoldable pub suffixWritten : List ℕ → Parts → List ℕ → AtHost
 suffixWritten file p buffer =
     let l : Left = writeOf file p buffer in
     atHost (toldWritten (l .result)) (l .buffer)
+
+-- what was found in a bundle, and what was written of one
+unfoldable pub toldBundle : BundleReading.Reading → BundleFound
+toldBundle r = record { refused = Bundle.refusalNumber r; count = Bundle.imagesIn r }
+
+unfoldable pub toldBundled : BundleWriting.Writing → Written
+toldBundled w = record { refused = Bundle.unwrittenNumber w; count = Bundle.bytesWritten w }
+
+unfoldable pub bundleWritten : List ℕ → List ℕ → List ℕ → AtHost
+bundleWritten lengths images buffer =
+    let l : Bundle.Left = Bundle.writeOf lengths images buffer in
+    atHost (toldBundled (l .result)) (l .buffer)

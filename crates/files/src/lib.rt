@@ -1,11 +1,14 @@
 // The file formats as a host written in C or Rust calls them, in an archive of their own: a board needs none of them.
 // Refusals are numbers here, since no enum can be handed over to C. `include/mullirim_files.h` declares these calls.
+use bundle::Part;
 use suffix::Parts;
 use suffix::Reading;
 use suffix::Writing;
 ghost use mathlib.Core.Path.{_≡_};
 ghost use Rattle.suffix.specs.Suffix.{readOf};
-ghost use Rattle.files.specs.Files.{toldRead, atHost, suffixWritten};
+ghost use Rattle.bundle.specs.Bundle.{partOf};
+ghost use Rattle.bundle.specs.Bundle as Bundle;
+ghost use Rattle.files.specs.Files.{toldRead, toldBundle, atHost, suffixWritten, bundleWritten};
 
 // A suffix that was read, with the bytes before it; or why it was refused, and zeros.
 #[repr(C)]
@@ -18,6 +21,13 @@ pub struct SuffixFound {
 // How many bytes were written; or why none were, and zero.
 #[repr(C)]
 pub struct Written {
+    pub refused: u32,
+    pub count: usize,
+}
+
+// How many images a bundle has; or why it was refused, and zero.
+#[repr(C)]
+pub struct BundleFound {
     pub refused: u32,
     pub count: usize,
 }
@@ -59,5 +69,34 @@ pub extern "C" fn mullirim_suffix_write(file: &[u8], parts: Parts, buffer: &mut 
             refused: 1,
             count: 0,
         },
+    }
+}
+
+#[no_mangle]
+pub extern "C" fn mullirim_bundle_read(file: &[u8]) -> BundleFound
+    ensures { λ r. ⌜ r ≡ toldBundle (Bundle.readOf (now (file .entry))) ⌝ }
+{
+    let reading = bundle::read(file);
+    BundleFound {
+        refused: bundle::number(reading),
+        count: bundle::images(reading),
+    }
+}
+
+#[no_mangle]
+pub extern "C" fn mullirim_bundle_image(file: &[u8], k: usize) -> Part
+    ensures { λ r. ⌜ r ≡ partOf (now (file .entry)) k ⌝ }
+{
+    bundle::part_of(file, k)
+}
+
+#[no_mangle]
+pub extern "C" fn mullirim_bundle_write(lengths: &[u64], images: &[u8], buffer: &mut [u8]) -> Written
+    ensures { λ r. ⌜ atHost r (now (buffer .exit)) ≡ bundleWritten (now (lengths .entry)) (now (images .entry)) (now (buffer .entry)) ⌝ }
+{
+    let writing = bundle::write(lengths, images, buffer);
+    Written {
+        refused: bundle::unwritten(writing),
+        count: bundle::written(writing),
     }
 }

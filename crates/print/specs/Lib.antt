@@ -1,2 +1,3 @@
 -- What numbers look like in print.
 pub mod Hex
+pub mod Decimal

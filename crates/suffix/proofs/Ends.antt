@@ -17,9 +17,10 @@ use Rattle.suffix.specs.declared.Reading.{Reading}
 use Rattle.suffix.specs.declared.Reading.the-variants.{Suffixed, Short, Signature, Length, Version, Sum}
 use Rattle.suffix.specs.Suffix.{suffixSize, dfuVersion, frontOf, sumBytes, suffixed}
 use Rattle.suffix.specs.Suffix.{signedAt, sizedAt, versionedAt, summedAt, partsAt, judged, readOf, refusalNumber}
-use Rattle.suffix.specs.Claims.{Bytes, field, LongEnough, Signed, Sized, Versioned, Summed, FileWith, Says}
-use Rattle.suffix.proofs.Lists.{bytes-take}
-use Rattle.suffix.proofs.Tests.{Tells, tells-no, isnt, both, equal, alike, either-way}
+use Rattle.pieces.specs.Claims.{Bytes}
+use Rattle.suffix.specs.Claims.{field, LongEnough, Signed, Sized, Versioned, Summed, FileWith, Says}
+use Rattle.pieces.proofs.Lists.{bytes-take}
+use Rattle.pieces.proofs.Tests.{Tells, tells-no, isnt, both, equal, alike, either-way}
 
 module _ (file : List ℕ) (x0 x1 x2 x3 x4 x5 x6 x7 x8 x9 x10 x11 x12 x13 x14 x15 : ℕ) where
   abbrev pub front : List ℕ

@@ -19,10 +19,11 @@ use Rattle.suffix.specs.declared.Writing.{Writing}
 use Rattle.suffix.specs.declared.Writing.the-variants.{Wrote, NoRoom}
 use Rattle.suffix.specs.Suffix.{suffixSize, dfuVersion, frontOf, sumBytes, suffixed, readOf, refusalNumber}
 use Rattle.suffix.specs.Suffix.{sizeWith, laid, Left, left, writeOf}
-use Rattle.suffix.specs.Claims.{Bytes, Fits, LongEnough, FileWith, Says, AcceptsExactly, OneReader, WritesExactly, OneWriter}
+use Rattle.pieces.specs.Claims.{Bytes}
+use Rattle.suffix.specs.Claims.{Fits, LongEnough, FileWith, Says, AcceptsExactly, OneReader, WritesExactly, OneWriter}
 use Rattle.suffix.specs.Claims.{ReadWritten, WriteRead, OneSuffix, OneOutcome}
 use Rattle.suffix.proofs.Laws.{no-room, room}
-use Rattle.suffix.proofs.Lists.{one-by-one, bytes-append, bytes-take}
+use Rattle.pieces.proofs.Lists.{one-by-one, bytes-append, bytes-take}
 use Rattle.suffix.proofs.Ends.{whole, at-suffixed, says-here, refused-here}
 
 -- ---- any bytes: too few, or a file and 16 bytes behind it

@@ -5,25 +5,18 @@ use mathlib.Core.Path.{_≡_}
 use lib.ListN.{length, getD, take, drop}
 use Rattle.numbers.specs.Numbers.{bytes4}
 use Rattle.crc.specs.Crc.{crcOf}
+use Rattle.pieces.specs.Claims.{Bytes, Exactly}
 use Rattle.suffix.specs.declared.Parts.{Parts}
 use Rattle.suffix.specs.declared.Reading.{Reading}
 use Rattle.suffix.specs.declared.Reading.the-variants.{Suffixed, Short, Signature, Length, Version, Sum}
 use Rattle.suffix.specs.declared.Writing.the-variants.{Wrote, NoRoom}
 use Rattle.suffix.specs.Suffix.{suffixed, readOf, Left, left, writeOf}
 
--- a list of bytes, and three numbers of 16 bits: what a lent slice and the parts are by their types
-abbrev pub Bytes : List ℕ → Type 0
-Bytes xs = (i : ℕ) → getD xs i 0 < 256
-
+-- three numbers of 16 bits: what the parts are by their types
 pub record Fits (p : Parts) : Type 0 where
   pub device : p .device < 2 ^ 16
   pub product : p .product < 2 ^ 16
   pub vendor : p .vendor < 2 ^ 16
-
--- one holds if and only if the other does
-pub record Exactly (one other : Type 0) : Type 0 where
-  pub then : one → other
-  pub back : other → one
 
 -- n of the last 16 bytes, from one of them on
 abbrev pub field : List ℕ → ℕ → ℕ → List ℕ

@@ -1,10 +1,9 @@
 // The suffix of a DFU file: 16 bytes behind the image that say for whom it is and vouch for all before them. It is read from any
 // bytes, and written behind a file into a lent buffer.
-ghost use Prim.Native.Nat.{_+_, _≤_};
+ghost use Prim.Native.Nat.{_≤_};
 ghost use mathlib.Core.Path.{_≡_};
 ghost use mathlib.Core.List.{_++_};
 ghost use lib.ListN.{length};
-ghost use lib.Seq.{paste};
 ghost use Rattle.suffix.specs.Suffix.{StandsAt, signedAt, sizedAt, versionedAt, summedAt, partsAt, vouchedAt, readAt, readOf};
 ghost use Rattle.suffix.specs.Suffix.{refusalNumber, frontOf, sumBytes, sizeWith, laid, left, writeOf};
 
@@ -173,22 +172,15 @@ fn sum_bytes(file: &[u8], front: &[u8]) -> [u8; 4]
     [sum.0, sum.1, sum.2, sum.3]
 }
 
-fn put(bytes: &[u8], buffer: &mut [u8], at: usize)
-    requires { ⌜ at + length (now bytes) ≤ length (now buffer) ⌝ }
-    ensures { λ _. ⌜ now (buffer .exit) ≡ paste (now (buffer .entry)) at (now (bytes .entry)) (length (now (bytes .entry))) ⌝ }
-{
-    bytes::copy(bytes, &mut buffer[at..]);
-}
-
 fn lay(file: &[u8], parts: Parts, buffer: &mut [u8])
     requires { ⌜ sizeWith (now file) ≤ length (now buffer) ⌝ }
     ensures { λ _. ⌜ now (buffer .exit) ≡ laid (now (file .entry)) parts (now (buffer .entry)) ⌝ }
 {
     let front = front(parts);
     let sum = sum_bytes(file, &front);
-    put(file, buffer, 0);
-    put(&front, buffer, file.len());
-    put(&sum, buffer, file.len() + FRONT);
+    let behind = pieces::put(file, buffer, 0);
+    let end = pieces::put(&front, buffer, behind);
+    pieces::put(&sum, buffer, end);
 }
 
 // The file and its suffix go to the buffer's front. A file that has a suffix already gets a second one.

@@ -25,9 +25,6 @@ put-requires-2 c κs = search needs
 slice-aggregate-put-2 : tie.Need-slice-aggregate-put-2
 slice-aggregate-put-2 c = search needs
 
-add-put : tie.Need-add-put
-add-put c = search needs
-
 put-requires-3 : tie.Need-put-requires-3
 put-requires-3 c κs = search needs
 
@@ -39,7 +36,7 @@ returns c =
     let third = c .before .before in
     let second = third .before .before .before .before .before in
     let first = second .before .before .before .before .before in
-    laid-by _ _ _ _ _ _ _ _
+    laid-by _ _ _ _ _ _ _ _ _ _ _
     (first .before .before .before .before .front .ensures)
     (first .before .before .sum-bytes .ensures)
     (first .put .ensures)
@@ -57,7 +54,6 @@ lay-spec =
     slice-aggregate-put
     put-requires-2
     slice-aggregate-put-2
-    add-put
     put-requires-3
     same-length
     returns)

@@ -1,6 +1,6 @@
 -- The signature, then the length, then the rest. Assumes nothing.
 use borrow.Author.Needs.{needs}
-use Rattle.suffix.proofs.Laws.{told-not}
+use Rattle.pieces.proofs.Tests.{told-not}
 use Rattle.suffix.proofs.read_at.Statement.{statement}
 use Rattle.suffix.proofs.read_at.Tie as tie
 

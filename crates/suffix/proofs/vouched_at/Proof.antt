@@ -1,6 +1,6 @@
 -- The version, then the sum. Assumes nothing.
 use borrow.Author.Needs.{needs}
-use Rattle.suffix.proofs.Laws.{told-not}
+use Rattle.pieces.proofs.Tests.{told-not}
 use Rattle.suffix.proofs.vouched_at.Statement.{statement}
 use Rattle.suffix.proofs.vouched_at.Tie as tie
 

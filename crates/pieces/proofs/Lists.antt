@@ -6,7 +6,7 @@ use native.Mathlib.Decide.{decLt}
 use native.Mathlib.Omega.{arith}
 use lib.ListN.{length, take, length-take, List·getD-eq-default}
 use lib.Seq.{getD-take}
-use Rattle.suffix.specs.Claims.{Bytes}
+use Rattle.pieces.specs.Claims.{Bytes}
 
 -- what holds for any n numbers holds for a list of n
 abbrev pub ForAll : ℕ → (List ℕ → Type 0) → Type 0

@@ -1,9 +1,9 @@
 -- What a test tells: it is true if and only if something holds. Assumes nothing.
-use Prim.Native.Nat.{ℕ}
-use mathlib.Core.Bool.{Bool, true, false, _&&_, true≢false, false≢true}
-use mathlib.Core.Path.{_≡_, refl, sym, _∙_}
-use borrow.Author.Tests.{eqb-true, eq-eqb}
-use lib.Dec.{eqb}
+use Prim.Native.Nat.{ℕ, _≤_}
+use mathlib.Core.Bool.{Bool, true, false, not, _&&_, _||_, true≢false, false≢true}
+use mathlib.Core.Path.{_≡_, refl, sym, ap, _∙_}
+use borrow.Author.Tests.{eqb-true, eq-eqb, leb-true, le-leb}
+use lib.Dec.{eqb, leb}
 
 pub record Tells (t : Bool) (A : Type 0) : Type 0 where
   pub yes : t ≡ true → A
@@ -23,6 +23,9 @@ both false t A B f g = record { yes = λ e. absurd (false≢true e); is = λ x. 
 pub equal : (n m : ℕ) → Tells (eqb n m) (n ≡ m)
 equal n m = record { yes = eqb-true n m; is = eq-eqb n m }
 
+pub at-most : (n m : ℕ) → Tells (leb n m) (n ≤ m)
+at-most n m = record { yes = leb-true n m; is = le-leb n m }
+
 -- what tells of one thing tells of another that comes to the same
 pub alike : (t : Bool) (A B : Type 0) → (A → B) → (B → A) → Tells t A → Tells t B
 alike t A B f g tells = record { yes = λ e. f (tells .yes e); is = λ b. tells .is (g b) }
@@ -30,3 +33,12 @@ alike t A B f g tells = record { yes = λ e. f (tells .yes e); is = λ b. tells 
 pub either-way : {A : Type 0} (t : Bool) → (t ≡ true → A) → (t ≡ false → A) → A
 either-way true f g = f refl
 either-way false f g = g refl
+
+-- a negated answer tells of the test that it is promised to be
+pub told-not : (r t v : Bool) → r ≡ t → not r ≡ v → not t ≡ v
+told-not r t v p q = ap not (sym p) ∙ q
+
+-- where one of two holds not, neither does
+pub neither : (s t : Bool) → (s || t) ≡ false → (s ≡ false) × (t ≡ false)
+neither true t h = absurd (true≢false h)
+neither false t h = (refl, h)

@@ -1,0 +1,2 @@
+-- What the list of a bundle's images looks like.
+pub mod Listing

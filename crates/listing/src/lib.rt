@@ -1,0 +1,68 @@
+// The list of a bundle's images, as text: how many there are, then a line for each with its number, its length and its sum.
+ghost use Prim.Native.Nat.{_+_, _≤_, _<_};
+ghost use mathlib.Core.Path.{_≡_};
+ghost use mathlib.Core.List.{_++_};
+ghost use lib.ListN.{length};
+ghost use Rattle.pieces.specs.Pieces.{Laid};
+ghost use Rattle.listing.specs.Listing.{mostBytes, imagesWord, feed, lineOf, linesFrom, listed, listOf, mostText};
+ghost use Rattle.print.specs.Decimal.{decimalOf};
+
+// The longest file that is listed.
+const MOST: usize = 65_536;
+
+fn images(file: &[u8]) -> usize
+    ensures { λ r. ⌜ (r ≡ listed (now (file .entry))) × (r ≤ 32) ⌝ }
+{
+    if MOST < file.len() {
+        return 0;
+    }
+    bundle::images(bundle::read(file))
+}
+
+// An image's line. It has 18 bytes at most, for a number below 100 and a length of up to five digits.
+fn line(k: usize, image: &[u8], text: &mut [u8], at: usize) -> usize
+    requires { ⌜ (k < 100) × (length (now image) ≤ mostBytes) × (at + 18 ≤ length (now text)) ⌝ }
+    ensures { λ r. ⌜ (Laid (now (text .entry)) (now (text .exit)) at r (lineOf k (now (image .entry)))) × (r ≤ at + 18) ⌝ }
+{
+    let number = print::decimal(k as u64, text, at);
+    let first = pieces::put(b" ", text, number);
+    let length = print::decimal(image.len() as u64, text, first);
+    let second = pieces::put(b" ", text, length);
+    let sum = pieces::put(&print::hex8(crc::sum(image)), text, second);
+    pieces::put(b"\n", text, sum)
+}
+
+fn lines(file: &[u8], count: usize, text: &mut [u8], at: usize) -> usize
+    requires { ⌜ (count ≤ 32) × (length (now file) ≤ mostBytes) × (at + 18 * count ≤ length (now text)) ⌝ }
+    ensures { λ r. ⌜ Laid (now (text .entry)) (now (text .exit)) at r (linesFrom (now (file .entry)) count 0) ⌝ }
+{
+    let mut end = at;
+    let mut k = 0;
+    while k < count {
+        end = line(k, bundle::image(file, k), text, end);
+        k += 1;
+    }
+    end
+}
+
+fn first_line(count: usize, text: &mut [u8]) -> usize
+    requires { ⌜ (count < 100) × (10 ≤ length (now text)) ⌝ }
+    ensures { λ r. ⌜ (Laid (now (text .entry)) (now (text .exit)) 0 r (imagesWord ++ decimalOf count ++ feed)) × (r ≤ 10) ⌝ }
+{
+    let word = pieces::put(b"images ", text, 0);
+    let number = print::decimal(count as u64, text, word);
+    pieces::put(b"\n", text, number)
+}
+
+// The whole text for any bytes, at the front of a buffer that is long enough for the longest one.
+pub fn list(file: &[u8], text: &mut [u8]) -> usize
+    requires { ⌜ mostText ≤ length (now text) ⌝ }
+    ensures { λ r. ⌜ Laid (now (text .entry)) (now (text .exit)) 0 r (listOf (now (file .entry))) ⌝ }
+{
+    let count = images(file);
+    if count == 0 {
+        return pieces::put(b"refused\n", text, 0);
+    }
+    let first = first_line(count, text);
+    lines(file, count, text, first)
+}
