@@ -13,7 +13,7 @@ use lib.Seq.{drop-cons}
 use borrow.Author.Tests.{leb-true, leb-false, eq-eqb, ne-eqb}
 use Rattle.numbers.specs.Numbers.{bytes2, bytes4}
 use Rattle.pieces.specs.Pieces.{placed, Laid}
-use Rattle.pieces.proofs.Laws.{placed-none, placed-more, laid-more, laid-front}
+use Rattle.pieces.proofs.Laws.{laid-more, laid-front}
 use Rattle.pieces.proofs.Tests.{Tells, both, at-most, neither, either-way}
 use Rattle.bundle.specs.declared.Writing.{Writing}
 use Rattle.bundle.specs.declared.Writing.the-variants.{Wrote, WrongCount, EmptyImage, NoRoom, WrongLengths}
@@ -52,7 +52,14 @@ module _ (l : List ℕ) (k : ℕ) where
   unfolding total
   total-none h = ap total (none h)
 
-  entries-none : (at : ℕ) → length l ≤ k → entriesOf at (drop k l) ≡ []
+  pub entries-next :
+      (at : ℕ) (bytes : List ℕ) → k < length l → bytes ≡ bytes4 at ++ bytes4 (getD l k 0)
+      → entriesOf at (drop k l) ≡ bytes ++ entriesOf (at + getD l k 0) (drop (k + 1) l)
+  unfolding entriesOf
+  entries-next at bytes h e =
+      ap (entriesOf at) (next h) ∙ ap (λ (x : List ℕ). x ++ entriesOf (at + getD l k 0) (drop (k + 1) l)) (sym e)
+
+  pub entries-none : (at : ℕ) → length l ≤ k → entriesOf at (drop k l) ≡ []
   unfolding entriesOf
   entries-none at h = ap (entriesOf at) (none h)
 
@@ -90,31 +97,6 @@ pub entries-long : (at : ℕ) (l : List ℕ) → length (entriesOf at l) ≡ 8 *
 unfolding entriesOf
 entries-long at [] = refl
 entries-long at (n ∷ l) = omega (arith, entries-long (at + n) l)
-
--- an entry that is laid leaves the others to lay
-pub laid-entry :
-    (l b c bytes : List ℕ) (k at next offset : ℕ) → k < length l → at ≤ length b
-    → bytes ≡ bytes4 offset ++ bytes4 (getD l k 0) → Laid b c at next bytes
-    → placed c next (entriesOf (offset + getD l k 0) (drop (k + 1) l)) ≡ placed b at (entriesOf offset (drop k l))
-unfolding entriesOf
-laid-entry l b c bytes k at end offset h room e laid =
-    let rest : List ℕ = entriesOf (offset + getD l k 0) (drop (k + 1) l) in
-    ap (λ (x : List ℕ). placed x end rest) (laid .stand)
-    ∙ placed-more b at end bytes rest room (laid .behind)
-    ∙ ap (λ (x : List ℕ). placed b at (x ++ rest)) e
-    ∙ ap (λ (x : List ℕ). placed b at (entriesOf offset x)) (sym (next l k h))
-
--- when none is left, all are laid
-pub laid-entries :
-    (l b c : List ℕ) (k at first offset : ℕ) → length l ≤ k → k ≤ length l → at ≡ headSize k
-    → placed c at (entriesOf offset (drop k l)) ≡ placed b 2 (entriesOf first l)
-    → Laid b c 2 at (entriesOf first l)
-laid-entries l b c k at first offset h few e left =
-    record {
-      stand =
-        sym (ap (placed c at) (entries-none l k offset h) ∙ placed-none c at) ∙ left;
-      behind = omega (arith, entries-long first l);
-    }
 
 -- where the lengths fit, so does their total
 pub fits-total : (room at : ℕ) (l : List ℕ) → fitsIn room at l ≡ true → at + total l ≤ room

@@ -1,6 +1,6 @@
 -- What the reader's answer means: a refusal, that what it names is wrong and all before it is right; and where nothing is wrong, that all
 -- is right. It holds of any list of numbers. Assumes nothing.
-use Prim.Native.Nat.{ℕ, zero, suc, _+_, _*_, _≤_, _<_}
+use Prim.Native.Nat.{ℕ, zero, suc, _+_, _-_, _≤_, _<_}
 use mathlib.Core.Bool.{true, false, not}
 use mathlib.Core.List.{List}
 use mathlib.Core.Path.{_≡_, refl, sym, ap, subst, _∙_}
@@ -150,3 +150,15 @@ image-inside bytes k h =
     let there : k < count bytes = a .1 in
     let table : TableThere bytes = a .0 .headed .table-there in
     (omega arith, a .0 .good k there .inside)
+
+-- and it counts 32 at most
+pub few-images : (bytes : List ℕ) → imagesIn (readOf bytes) ≤ 32
+few-images bytes =
+    elim (decLt 0 (imagesIn (readOf bytes))) [
+      | yes l ↦
+          let a = accepted bytes (readOf bytes) (means bytes) (imagesIn (readOf bytes) - 1) (omega arith) in
+          let last : imagesIn (readOf bytes) - 1 < count bytes = a .1 in
+          let few : count bytes ≤ 32 = a .0 .headed .count-good .1 in
+          omega arith
+      | no l ↦ omega arith
+    ]

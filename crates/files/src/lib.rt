@@ -91,7 +91,11 @@ pub extern "C" fn mullirim_bundle_image(file: &[u8], k: usize) -> Part
 }
 
 #[no_mangle]
-pub extern "C" fn mullirim_bundle_write(lengths: &[u64], images: &[u8], buffer: &mut [u8]) -> Written
+pub extern "C" fn mullirim_bundle_write(
+    lengths: &[u64],
+    images: &[u8],
+    buffer: &mut [u8],
+) -> Written
     ensures { λ r. ⌜ atHost r (now (buffer .exit)) ≡ bundleWritten (now (lengths .entry)) (now (images .entry)) (now (buffer .entry)) ⌝ }
 {
     let writing = bundle::write(lengths, images, buffer);

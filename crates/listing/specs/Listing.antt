@@ -28,7 +28,7 @@ feed = 10 ∷ []
 
 -- an image's line: its number, its length and its sum
 unfoldable pub lineOf : ℕ → List ℕ → List ℕ
-lineOf k image = decimalOf k ++ space ++ decimalOf (length image) ++ space ++ hexOf (crcOf image) ++ feed
+lineOf k image = (decimalOf k ++ space) ++ (decimalOf (length image) ++ space) ++ (hexOf (crcOf image) ++ feed)
 
 -- the lines of n images, from image k on
 unfoldable pub linesFrom : List ℕ → ℕ → ℕ → List ℕ
@@ -43,7 +43,7 @@ listed bytes = cond (ltb mostBytes (length bytes)) 0 (imagesIn (readOf bytes))
 unfoldable pub listOf : List ℕ → List ℕ
 listOf bytes =
     cond (eqb (listed bytes) 0) (refusedWord ++ feed)
-    (imagesWord ++ decimalOf (listed bytes) ++ feed ++ linesFrom bytes (listed bytes) 0)
+    ((imagesWord ++ decimalOf (listed bytes) ++ feed) ++ linesFrom bytes (listed bytes) 0)
 
 -- the most bytes of a text: a first line of 10 and 32 of 18
 abbrev pub mostText : ℕ

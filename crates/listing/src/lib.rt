@@ -1,11 +1,13 @@
 // The list of a bundle's images, as text: how many there are, then a line for each with its number, its length and its sum.
-ghost use Prim.Native.Nat.{_+_, _≤_, _<_};
+ghost use Prim.Native.Nat.{_+_, _*_, _≤_, _<_};
 ghost use mathlib.Core.Path.{_≡_};
 ghost use mathlib.Core.List.{_++_};
 ghost use lib.ListN.{length};
 ghost use Rattle.pieces.specs.Pieces.{Laid};
-ghost use Rattle.listing.specs.Listing.{mostBytes, imagesWord, feed, lineOf, linesFrom, listed, listOf, mostText};
+ghost use Rattle.listing.specs.Listing.{mostBytes, imagesWord, space, feed, lineOf, linesFrom, listed, listOf, mostText};
 ghost use Rattle.print.specs.Decimal.{decimalOf};
+ghost use Rattle.print.specs.Hex.{hexOf};
+ghost use Rattle.crc.specs.Crc.{crcOf};
 
 // The longest file that is listed.
 const MOST: usize = 65_536;
@@ -19,22 +21,38 @@ fn images(file: &[u8]) -> usize
     bundle::images(bundle::read(file))
 }
 
+// A number and the space behind it.
+fn number(n: u64, text: &mut [u8], at: usize) -> usize
+    requires { ⌜ at + length (decimalOf n) + 1 ≤ length (now text) ⌝ }
+    ensures { λ r. ⌜ Laid (now (text .entry)) (now (text .exit)) at r (decimalOf n ++ space) ⌝ }
+{
+    let end = print::decimal(n, text, at);
+    pieces::put(b" ", text, end)
+}
+
+// The sum of an image and the line's end.
+fn sum(image: &[u8], text: &mut [u8], at: usize) -> usize
+    requires { ⌜ at + 9 ≤ length (now text) ⌝ }
+    ensures { λ r. ⌜ Laid (now (text .entry)) (now (text .exit)) at r (hexOf (crcOf (now (image .entry))) ++ feed) ⌝ }
+{
+    let digits = print::hex8(crc::sum(image));
+    let end = pieces::put(&digits, text, at);
+    pieces::put(b"\n", text, end)
+}
+
 // An image's line. It has 18 bytes at most, for a number below 100 and a length of up to five digits.
 fn line(k: usize, image: &[u8], text: &mut [u8], at: usize) -> usize
     requires { ⌜ (k < 100) × (length (now image) ≤ mostBytes) × (at + 18 ≤ length (now text)) ⌝ }
     ensures { λ r. ⌜ (Laid (now (text .entry)) (now (text .exit)) at r (lineOf k (now (image .entry)))) × (r ≤ at + 18) ⌝ }
 {
-    let number = print::decimal(k as u64, text, at);
-    let first = pieces::put(b" ", text, number);
-    let length = print::decimal(image.len() as u64, text, first);
-    let second = pieces::put(b" ", text, length);
-    let sum = pieces::put(&print::hex8(crc::sum(image)), text, second);
-    pieces::put(b"\n", text, sum)
+    let first = number(k as u64, text, at);
+    let second = number(image.len() as u64, text, first);
+    sum(image, text, second)
 }
 
 fn lines(file: &[u8], count: usize, text: &mut [u8], at: usize) -> usize
     requires { ⌜ (count ≤ 32) × (length (now file) ≤ mostBytes) × (at + 18 * count ≤ length (now text)) ⌝ }
-    ensures { λ r. ⌜ Laid (now (text .entry)) (now (text .exit)) at r (linesFrom (now (file .entry)) count 0) ⌝ }
+    ensures { λ r. ⌜ (Laid (now (text .entry)) (now (text .exit)) at r (linesFrom (now (file .entry)) count 0)) × (r ≤ at + 18 * count) ⌝ }
 {
     let mut end = at;
     let mut k = 0;
@@ -57,7 +75,7 @@ fn first_line(count: usize, text: &mut [u8]) -> usize
 // The whole text for any bytes, at the front of a buffer that is long enough for the longest one.
 pub fn list(file: &[u8], text: &mut [u8]) -> usize
     requires { ⌜ mostText ≤ length (now text) ⌝ }
-    ensures { λ r. ⌜ Laid (now (text .entry)) (now (text .exit)) 0 r (listOf (now (file .entry))) ⌝ }
+    ensures { λ r. ⌜ (Laid (now (text .entry)) (now (text .exit)) 0 r (listOf (now (file .entry)))) × (r ≤ mostText) ⌝ }
 {
     let count = images(file);
     if count == 0 {

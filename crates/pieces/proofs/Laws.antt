@@ -1,6 +1,6 @@
 -- The laws of laying: a copy to the front of a buffer's rest, and one piece behind the other. Assumes nothing.
 use mathlib.Core.List.{List, [], _++_, append-assoc, append-nil}
-use mathlib.Core.Path.{_≡_, sym, ap, ap₂, _∙_}
+use mathlib.Core.Path.{_≡_, sym, ap, ap₂, subst, _∙_}
 use Prim.Native.Nat.{ℕ, _+_, _-_, _≤_}
 use native.Mathlib.Omega.{arith}
 use lib.ListN.{length, take, drop, length-append, length-drop, drop-of-length-le}
@@ -69,3 +69,36 @@ laid-more b c d at m n xs ys h one two =
 -- at the front, what was laid stands before the rest
 pub laid-front : (b c : List ℕ) (n : ℕ) (xs : List ℕ) → Laid b c 0 n xs → c ≡ xs ++ drop n b
 laid-front b c n xs l = l .stand ∙ ap₂ (λ (x : List ℕ) (k : ℕ). x ++ drop k b) (take-length xs) (sym (l .behind))
+
+-- the bytes may be said in another way
+pub laid-as : (b c : List ℕ) (at n : ℕ) (xs ys : List ℕ) → xs ≡ ys → Laid b c at n xs → Laid b c at n ys
+laid-as b c at n xs ys e l = subst (λ (x : List ℕ). Laid b c at n x) e l
+
+-- pieces that are laid in turns: what is still owed, laid behind what stands, gives what all of it gives
+pub record Owed (buffer now : List ℕ) (at next : ℕ) (all rest : List ℕ) : Type 0 where
+  pub stand : placed now next rest ≡ placed buffer at all
+  pub behind : next + length rest ≡ at + length all
+
+pub owed-all : (b : List ℕ) (at : ℕ) (all rest : List ℕ) → rest ≡ all → Owed b b at at all rest
+owed-all b at all rest e = record { stand = ap (placed b at) e; behind = ap (λ (x : List ℕ). at + length x) e }
+
+-- a piece is laid
+pub owed-less :
+    (b now after : List ℕ) (at next end : ℕ) (all owed piece rest : List ℕ) → owed ≡ piece ++ rest → next ≤ length now
+    → Owed b now at next all owed → Laid now after next end piece → Owed b after at end all rest
+owed-less b now after at next end all owed piece rest e h o l =
+    let long : length owed ≡ length piece + length rest = ap length e ∙ length-append piece rest in
+    record {
+      stand =
+          ap (λ (x : List ℕ). placed x end rest) (l .stand)
+          ∙ placed-more now next end piece rest h (l .behind)
+          ∙ ap (placed now next) (sym e)
+          ∙ o .stand;
+      behind = omega (arith, l .behind, o .behind);
+    }
+
+-- nothing is owed any more
+pub owed-none : (b now : List ℕ) (at next : ℕ) (all rest : List ℕ) → rest ≡ [] → Owed b now at next all rest → Laid b now at next all
+owed-none b now at next all rest e o =
+    let none : length rest ≡ 0 = ap length e in
+    record { stand = sym (ap (placed now next) e ∙ placed-none now next) ∙ o .stand; behind = omega (arith, o .behind) }

@@ -37,8 +37,7 @@ lay-entries-requires : tie.Need-lay-entries-requires
 lay-entries-requires c κs =
     let put = c .before .before .before in
     let s = put .before .before .before .before .before .before .before in
-    let lengths = s .args .lengths .now in
-    (
+    let lengths = s .args .lengths .now in (
       omega (arith, writable-room lengths (s .args .images .now) (length (s .args .buffer .now)) (s .pre), put .put .kept .1 .0),
       subst (λ (room : ℕ). fitsIn room (headSize (length lengths)) lengths ≡ true) (sym (put .put .kept .1 .0)) (s .pre .fits),
     )

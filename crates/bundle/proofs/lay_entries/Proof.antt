@@ -1,7 +1,7 @@
-use Rattle.bundle.proofs.Laws.{fits-on, laid-entry, laid-entries}
+use Rattle.bundle.proofs.Laws.{fits-on, entries-next, entries-none}
 use borrow.Author.Needs.{needs}
 use Rattle.bundle.specs.Bundle.{headSize, fitsIn, entriesOf}
-use Rattle.pieces.specs.Pieces.{placed}
+use Rattle.pieces.proofs.Laws.{Owed, owed-all, owed-less, owed-none}
 use lib.ListN.{length, getD, drop}
 use native.Mathlib.Omega.{arith}
 use mathlib.Core.Path.{_≡_, refl, sym, ap, _∙_}
@@ -21,7 +21,7 @@ Inv-loop lengths buffer₀ offset₀ at₀ k₀ buffer offset at k =
     × (at ≡ headSize k)
     × (length buffer ≡ length buffer₀)
     × (fitsIn (length buffer₀) offset (drop k lengths) ≡ true)
-    × (placed buffer at (entriesOf offset (drop k lengths)) ≡ placed buffer₀ 2 (entriesOf (headSize (length lengths)) lengths))
+    × Owed buffer₀ buffer 2 at (entriesOf (headSize (length lengths)) lengths) (entriesOf offset (drop k lengths))
 
 abbrev μ-loop : tie.MeasureT-loop
 μ-loop lengths buffer₀ offset₀ at₀ k₀ buffer offset at k = length lengths - k
@@ -32,13 +32,12 @@ head-requires c κs = search needs
 
 loop-holds : tie.Need-loop-holds Inv-loop μ-loop
 loop-holds c =
-    let a = c .before .before .before .args in
-    (
+    let a = c .before .before .before .args in (
       omega arith,
       refl,
       refl,
       ap (λ (at : ℕ). fitsIn (length (a .buffer .now)) at (a .lengths .now)) (c .head .ensures) ∙ c .before .before .before .pre .1,
-      ap (λ (at : ℕ). placed (a .buffer .now) 2 (entriesOf at (a .lengths .now))) (c .head .ensures),
+      owed-all _ _ _ _ (ap (λ (at : ℕ). entriesOf at (a .lengths .now)) (c .head .ensures)),
     )
 
 mul-length : tie.Need-mul-length Inv-loop μ-loop
@@ -83,13 +82,14 @@ loop-again c =
     let put = c .before .before in
     let bytes = put .before .before .before in
     let w = bytes .before .before .before in
-    let on = fits-on _ (w .loop .k) _ _ (omega arith) (w .loop .inv .3) in
-    (
+    let on = fits-on _ (w .loop .k) _ _ (omega arith) (w .loop .inv .3) in (
       omega arith,
       search needs,
       search needs,
       on .1,
-      laid-entry _ _ _ _ (w .loop .k) _ _ _ (omega arith) (search needs) (bytes .entry-bytes .ensures) (put .put .ensures) ∙ w .loop .inv .4,
+      owed-less _ _ _ _ _ _ _ _ _ _
+          (entries-next _ (w .loop .k) _ _ (omega arith) (bytes .entry-bytes .ensures))
+          (search needs) (w .loop .inv .4) (put .put .ensures),
     )
 
 same-length : tie.Need-same-length Inv-loop μ-loop
@@ -98,7 +98,7 @@ same-length c = search needs
 returns : tie.Need-returns Inv-loop μ-loop
 returns c =
     let w = c .before in
-    laid-entries _ _ _ (w .loop .k) _ _ _ (omega arith) (w .loop .inv .0) (w .loop .inv .1) (w .loop .inv .4)
+    owed-none _ _ _ _ _ _ (entries-none _ (w .loop .k) _ (omega arith)) (w .loop .inv .4)
 
 pub lay-entries-spec : {M : Type 1} → statement M
 lay-entries-spec =

@@ -53,8 +53,7 @@ returns-2 c =
     let a = n .before .before .before .args in
     let below : a .k < imagesIn (readOf (a .file .now)) =
     omega (arith, e .before .if1 .left, n .images .ensures, ap imagesIn (n .before .read .ensures))
-    in
-    (
+    in (
       ap (λ (x : Entry). record { from = x .offset; length = x .length }) (e .entry-at .ensures) ∙ sym (part-some (a .file .now) (a .k) below),
       omega (arith, ap endOf (e .entry-at .ensures), image-inside (a .file .now) (a .k) below .1),
     )

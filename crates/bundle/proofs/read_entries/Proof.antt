@@ -71,10 +71,11 @@ loop-again c =
     let two = c .before .before in
     let one = two .before .before in
     let e = one .before .before in
-    let w = e .before .before in
-    (omega arith,
-    sym (passed _ _ _ (w .before .before .before .args .count - (w .loop .k + 1)) _ _ _ (omega arith) (e .entry-at .ensures) (one .if1 .left) (two .if2 .left) _ (c .before .end .ensures) (c .if3 .left))
-    ∙ w .loop .inv .1)
+    let w = e .before .before in (
+      omega arith,
+      sym (passed _ _ _ (w .before .before .before .args .count - (w .loop .k + 1)) _ _ _ (omega arith) (e .entry-at .ensures) (one .if1 .left) (two .if2 .left) _ (c .before .end .ensures) (c .if3 .left))
+          ∙ w .loop .inv .1,
+    )
 
 returns-4 : tie.Need-returns-4 Inv-loop μ-loop
 returns-4 c =

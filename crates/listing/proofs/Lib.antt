@@ -1,0 +1,2 @@
+-- The laws of the list's lines.
+pub mod Laws

@@ -1,0 +1,82 @@
+use Rattle.listing.proofs.Laws.{two-digits, five-digits, laid-line}
+use Rattle.listing.specs.Listing.{space}
+use Rattle.print.specs.Decimal.{decimalOf}
+use lib.ListN.{length, length-append}
+use native.Mathlib.Omega.{arith}
+use borrow.Author.Needs.{needs}
+use Rattle.listing.proofs.line.Statement.{statement}
+use Rattle.listing.proofs.line.Tie as tie
+use Rattle.listing.proofs.line.Reads as reads
+use Rattle.listing.proofs.line.Lts as lts
+use Rattle.listing.proofs.number.Reads as number-reads
+use Rattle.listing.proofs.sum.Reads as sum-reads
+
+-- src/lib.rt:48:9
+number-requires : tie.Need-number-requires
+number-requires c κs =
+    let s = c .before .before .before in
+    omega (arith, s .pre .2, two-digits (s .args .k) (s .pre .0))
+
+number-requires-2 : tie.Need-number-requires-2
+number-requires-2 c κs =
+    let one = c .before .before .before in
+    let s = one .before .before .before .before in
+    let k = s .args .k in
+    let n = length (s .args .image .now) in
+    omega (
+      arith,
+      s .pre .2,
+      one .number .ensures .behind,
+      one .number .kept .1 .0,
+      two-digits k (s .pre .0),
+      five-digits n (s .pre .1),
+      length-append (decimalOf k) space,
+    )
+
+sum-requires : tie.Need-sum-requires
+sum-requires c κs =
+    let two = c .before .before .before in
+    let one = two .before .before .before .before in
+    let s = one .before .before .before .before in
+    let k = s .args .k in
+    let n = length (s .args .image .now) in
+    omega (
+      arith,
+      s .pre .2,
+      one .number .ensures .behind,
+      two .number2 .ensures .behind,
+      one .number .kept .1 .0,
+      two .number2 .kept .1 .0,
+      two-digits k (s .pre .0),
+      five-digits n (s .pre .1),
+      length-append (decimalOf k) space,
+      length-append (decimalOf n) space,
+    )
+
+same-length : tie.Need-same-length
+same-length c = search needs
+
+-- src/lib.rt:44:1
+returns : tie.Need-returns
+returns c =
+    let three = c .before .before in
+    let two = three .before .before .before .before in
+    let one = two .before .before .before .before in
+    let s = one .before .before .before .before in
+    let k = s .args .k in
+    let n = length (s .args .image .now) in (
+      laid-line _ _ _ _ _ _ _ _ _ _ (omega (arith, s .pre .2)) (one .number .ensures) (two .number2 .ensures) (three .sum .ensures),
+      omega (
+        arith,
+        one .number .ensures .behind,
+        two .number2 .ensures .behind,
+        three .sum .ensures .behind,
+        two-digits k (s .pre .0),
+        five-digits n (s .pre .1),
+        length-append (decimalOf k) space,
+        length-append (decimalOf n) space,
+      ),
+    )
+
+pub line-spec : {M : Type 1} → statement M
+line-spec = tie.close (tie.spec number-requires number-requires-2 sum-requires same-length returns)
