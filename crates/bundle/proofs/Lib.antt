@@ -2,3 +2,8 @@
 pub mod Walk
 pub mod Laws
 pub mod Meaning
+pub mod Totals
+pub mod Entries
+pub mod Made
+pub mod Writes
+pub mod Theorems

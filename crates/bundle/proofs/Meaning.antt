@@ -10,7 +10,7 @@ use native.Mathlib.Omega.{arith}
 use lib.Dec.{eqb}
 use lib.ListN.{length}
 use borrow.Author.Tests.{lt-ltb, le-ltb, eqb-true, eqb-false, not-true, not-false}
-use Rattle.pieces.proofs.Tests.{tells-no, either-way}
+use Rattle.pieces.proofs.Tests.{tells-no, isnt, either-way}
 use Rattle.bundle.specs.declared.Entry.{Entry}
 use Rattle.bundle.specs.declared.Reading.{Reading}
 use Rattle.bundle.specs.declared.Reading.the-variants.{Bundle, Short, Count, Table, Offset, Empty, Past, LeftOver}
@@ -44,7 +44,7 @@ good-more bytes k good one j h =
       | no l ↦ let e : k ≡ j = omega arith in subst (EntryGood bytes) e one
     ]
 
-positive : (n : ℕ) → (n ≡ 0 → ⊥) → 1 ≤ n
+pub positive : (n : ℕ) → (n ≡ 0 → ⊥) → 1 ≤ n
 positive zero h = absurd (h refl)
 positive (suc n) h = omega arith
 
@@ -142,11 +142,14 @@ accepted bytes Empty m k h = absurd (omega arith)
 accepted bytes Past m k h = absurd (omega arith)
 accepted bytes LeftOver m k h = absurd (omega arith)
 
+pub accepted-good : (bytes : List ℕ) (k : ℕ) → k < imagesIn (readOf bytes) → AllGood bytes × (k < count bytes)
+accepted-good bytes k h = accepted bytes (readOf bytes) (means bytes) k h
+
 pub image-inside :
     (bytes : List ℕ) (k : ℕ) → k < imagesIn (readOf bytes)
     → (headSize (k + 1) ≤ length bytes) × (endOf (entryAt bytes k) ≤ length bytes)
 image-inside bytes k h =
-    let a = accepted bytes (readOf bytes) (means bytes) k h in
+    let a = accepted-good bytes k h in
     let there : k < count bytes = a .1 in
     let table : TableThere bytes = a .0 .headed .table-there in
     (omega arith, a .0 .good k there .inside)
@@ -156,9 +159,70 @@ pub few-images : (bytes : List ℕ) → imagesIn (readOf bytes) ≤ 32
 few-images bytes =
     elim (decLt 0 (imagesIn (readOf bytes))) [
       | yes l ↦
-          let a = accepted bytes (readOf bytes) (means bytes) (imagesIn (readOf bytes) - 1) (omega arith) in
+          let a = accepted-good bytes (imagesIn (readOf bytes) - 1) (omega arith) in
           let last : imagesIn (readOf bytes) - 1 < count bytes = a .1 in
           let few : count bytes ≤ 32 = a .0 .headed .count-good .1 in
           omega arith
       | no l ↦ omega arith
     ]
+
+-- ---- and the other way: what is so is what is read
+
+below : (n m : ℕ) → (n ≤ m → ⊥) → m < n
+below n m h =
+    elim (decLt m n) [
+      | yes l ↦ l
+      | no l ↦ absurd (h (omega arith))
+    ]
+
+nothing : (n : ℕ) → (1 ≤ n → ⊥) → n ≡ 0
+nothing n h = omega (arith, below 1 n h)
+
+pub nonzero : (n : ℕ) → 1 ≤ n → n ≡ 0 → ⊥
+nonzero n h e = omega arith
+
+module _ (bytes : List ℕ) (headed : Headed bytes) where
+  -- the walk comes to an entry behind good ones
+  reach :
+      (k : ℕ) → k ≤ count bytes → GoodBelow bytes k
+      → readOf bytes ≡ readFrom bytes (count bytes) (count bytes - k) k (start bytes k)
+  unfolding start
+  reach zero h good =
+      let all : count bytes ≡ count bytes - 0 = omega arith in
+      at-entries bytes (count bytes) (headed .long-enough) refl (count-tells (count bytes) .is (headed .count-good)) (headed .table-there)
+      ∙ ap (λ (m : ℕ). readFrom bytes (count bytes) m 0 (headSize (count bytes))) all
+  reach (suc k) h good =
+      let one : EntryGood bytes k = good k (omega arith) in
+      let e : Entry = entryAt bytes k in
+      let end : start bytes k + e .length ≡ endOf e = ap (λ (x : ℕ). x + e .length) (sym (one .in-place)) in
+      reach k (omega arith) (λ j l. good j (omega arith))
+      ∙ passed bytes (count bytes) (count bytes - k) (count bytes - suc k) k (start bytes k) e (omega arith) refl (one .in-place)
+      (nonzero (e .length) (one .has-bytes)) (start bytes k + e .length) end (omega (arith, one .inside))
+      ∙ ap (λ (i : ℕ). readFrom bytes (count bytes) (count bytes - suc k) i (start bytes k + e .length)) (add-one k)
+
+module _ (bytes : List ℕ) {Wrong : ℕ → Type 0} (a : AtEntry bytes Wrong) where
+  here : readOf bytes ≡ readFrom bytes (count bytes) (count bytes - a .entry) (a .entry) (start bytes (a .entry))
+  here = reach bytes (a .headed) (a .entry) (omega (arith, a .there)) (a .before)
+
+  more : count bytes - a .entry ≡ suc (count bytes - suc (a .entry))
+  more = omega (arith, a .there)
+
+pub given : (bytes : List ℕ) (r : Reading) → Means r bytes → readOf bytes ≡ r
+given bytes (Bundle n) m =
+    let all : AllGood bytes = m .0 in
+    reach bytes (all .headed) (count bytes) (omega arith) (all .good)
+    ∙ at-end bytes (count bytes) _ (count bytes) _ (omega arith) (omega (arith, all .ends))
+    ∙ ap Bundle (sym (m .1))
+given bytes Short h = at-short bytes (omega (arith, below 2 (length bytes) h))
+given bytes Count h = at-count bytes (count bytes) (h .0) refl (isnt _ _ (count-tells (count bytes)) (h .1))
+given bytes Table h =
+    at-table bytes (count bytes) (h .0) refl (count-tells (count bytes) .is (h .1)) (below (headSize (count bytes)) (length bytes) (h .2))
+given bytes Offset a = here bytes a ∙ at-offset bytes _ _ _ (a .entry) _ _ (more bytes a) refl (a .wrong)
+given bytes Empty a =
+    here bytes a ∙ at-empty bytes _ _ _ (a .entry) _ _ (more bytes a) refl (a .wrong .0) (nothing _ (a .wrong .1))
+given bytes Past a =
+    here bytes a
+    ∙ at-past bytes _ _ _ (a .entry) _ _ (more bytes a) refl (a .wrong .0) (nonzero _ (a .wrong .1)) _ refl (below _ (length bytes) (a .wrong .2))
+given bytes LeftOver h =
+    reach bytes (h .0) (count bytes) (omega arith) (h .1)
+    ∙ at-left-over bytes (count bytes) _ (count bytes) _ (omega arith) (h .2)

@@ -1,12 +1,13 @@
 -- A number that was written is read back: from its bytes alone, and from the place where they stand among others.
 -- Assumes nothing.
-use Prim.Native.Nat.{ℕ, _+_, _*_, _/_, _%_, _^_, _<_}
+use Prim.Native.Nat.{ℕ, _+_, _*_, _/_, _%_, _^_, _≤_, _<_}
 use mathlib.Core.List.{List, [], _∷_, _++_, append-assoc}
 use mathlib.Core.Path.{_≡_, sym, ap, ap₂, _∙_}
 use native.Mathlib.Nat.{zero-add, add-mul-div-right, add-mul-mod-self-right, div-div-eq-div-mul, div-eq-of-lt, mod-add-div', mod-eq-of-lt}
+use native.Mathlib.Numerals.{add-one}
 use native.Mathlib.Omega.{arith}
-use lib.ListN.{length, getD}
-use lib.Seq.{getD-append-add}
+use lib.ListN.{length, getD, take, drop}
+use lib.Seq.{getD-append-add, drop-cons, drop-drop, take-add}
 use Rattle.numbers.specs.Numbers.{wordAt, longAt, bytes2, bytes3, bytes4}
 
 -- a number is its low bytes, if it has no more
@@ -83,3 +84,24 @@ module _ (before after : List ℕ) (n : ℕ) where
       ap (λ (l : List ℕ). longAt l (length before)) (append-assoc before (bytes4 n) after)
       ∙ long-on before (bytes4 n ++ after) (length before) 0 (omega arith)
       ∙ four-bytes n h
+
+-- what stands at a place is the number that is read there, in bytes
+module _ (bytes : List ℕ) (b : (i : ℕ) → getD bytes i 0 < 256) where
+  two-at : (at : ℕ) → at + 2 ≤ length bytes → take 2 (drop at bytes) ≡ getD bytes at 0 ∷ getD bytes (at + 1) 0 ∷ []
+  two-at at h =
+      ap (take 2) (drop-cons bytes at 0 (omega arith))
+      ∙ ap (λ (l : List ℕ). getD bytes at 0 ∷ take 1 l)
+      (ap (λ (i : ℕ). drop i bytes) (sym (add-one at)) ∙ drop-cons bytes (at + 1) 0 (omega arith))
+
+  pub word-taken : (at : ℕ) → at + 2 ≤ length bytes → bytes2 (wordAt bytes at) ≡ take 2 (drop at bytes)
+  word-taken at h = of-two-bytes _ _ (b at) (b (at + 1)) ∙ sym (two-at at h)
+
+  pub long-taken : (at : ℕ) → at + 4 ≤ length bytes → bytes4 (longAt bytes at) ≡ take 4 (drop at bytes)
+  long-taken at h =
+      of-four-bytes _ _ _ _ (b at) (b (at + 1)) (b (at + 2)) (b (at + 2 + 1))
+      ∙ sym
+      (take-add 2 2 (drop at bytes)
+      ∙ ap₂ _++_ (two-at at (omega arith)) (ap (take 2) (drop-drop 2 at bytes) ∙ two-at (at + 2) (omega arith)))
+
+  pub long-fits : (at : ℕ) → longAt bytes at < 2 ^ 32
+  long-fits at = omega (arith, b at, b (at + 1), b (at + 2), b (at + 2 + 1))
