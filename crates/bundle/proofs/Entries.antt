@@ -1,10 +1,10 @@
 -- The entries of a bundle are what is read from it. Assumes nothing.
 use Prim.Native.Nat.{ℕ, zero, suc, _+_, _^_, _<_}
 use mathlib.Core.List.{List, [], _∷_, _++_, append-assoc}
-use mathlib.Core.Path.{_≡_, refl, sym, ap, ap₂, _∙_}
+use mathlib.Core.Path.{_≡_, sym, ap, ap₂, _∙_}
 use native.Mathlib.Omega.{arith}
 use lib.ListN.{length, getD, take, length-append}
-use Rattle.numbers.specs.Numbers.{longAt, bytes4}
+use Rattle.numbers.specs.Numbers.{bytes4}
 use Rattle.numbers.proofs.Laws.{four-bytes, long-on}
 use Rattle.bundle.specs.declared.Entry.{Entry}
 use Rattle.bundle.specs.Bundle.{headSize, entryAt, entriesOf, total}

@@ -1,19 +1,17 @@
 -- Bytes of which every entry is good are the bundle of their images, and the other way. Assumes nothing.
-use Prim.Native.Nat.{ℕ, zero, suc, _+_, _-_, _*_, _^_, _≤_, _<_}
-use mathlib.Core.List.{List, [], _∷_, _++_, append-assoc}
+use Prim.Native.Nat.{ℕ, zero, suc, _+_, _*_, _≤_, _<_}
+use mathlib.Core.List.{List, [], _∷_, _++_}
 use mathlib.Core.Path.{_≡_, refl, sym, ap, ap₂, subst, _∙_}
-use native.Mathlib.Decide.{decLt}
-use native.Mathlib.Numerals.{add-one}
 use native.Mathlib.Omega.{arith}
-use lib.ListN.{length, getD, take, drop, length-append, length-drop, take-append-drop, drop-of-length-le}
+use lib.ListN.{length, getD, take, drop, length-drop, take-append-drop, drop-of-length-le}
 use lib.Seq.{length-take-le, take-length, drop-drop, take-add}
-use Rattle.numbers.specs.Numbers.{wordAt, longAt, bytes2, bytes4}
+use Rattle.numbers.specs.Numbers.{bytes2, bytes4}
 use Rattle.numbers.proofs.Laws.{two-bytes, word-taken, long-taken, long-fits}
 use Rattle.pieces.specs.Claims.{Bytes}
 use Rattle.bundle.specs.declared.Entry.{Entry}
-use Rattle.bundle.specs.Bundle.{headSize, entryAt, endOf, entriesOf, bundleOf, total}
+use Rattle.bundle.specs.Bundle.{headSize, entryAt, entriesOf, bundleOf, total}
 use Rattle.bundle.specs.Claims.{lengthsOf, joined, Counted, Full, Narrow, Legal, bundled, count, offset, long, start}
-use Rattle.bundle.specs.Claims.{Headed, EntryGood, GoodBelow, BundleWith}
+use Rattle.bundle.specs.Claims.{EntryGood, GoodBelow, BundleWith}
 use Rattle.bundle.proofs.Laws.{bundle-long}
 use Rattle.bundle.proofs.Totals.{total-take, total-part, lengths-many, joined-long}
 use Rattle.bundle.proofs.Entries.{entry-there}
@@ -70,17 +68,17 @@ module _ (images : List (List ℕ)) (legal : Legal images) where
       let few = legal .counted in
       record {
         headed =
-          record {
-            long-enough = omega (arith, size-is);
-            count-good = (omega (arith, count-is, few .some), omega (arith, count-is, few .few));
-            table-there = omega (arith, count-is, size-is);
-          };
+            record {
+              long-enough = omega (arith, size-is);
+              count-good = (omega (arith, count-is, few .some), omega (arith, count-is, few .few));
+              table-there = omega (arith, count-is, size-is);
+            };
         good = subst (GoodBelow (bundled images)) (sym count-is) good;
         ends =
-          ap (start (bundled images)) count-is
-          ∙ start-is (length l) (omega arith)
-          ∙ ap (λ (x : List ℕ). head + total x) (take-length l)
-          ∙ sym size-is;
+            ap (start (bundled images)) count-is
+            ∙ start-is (length l) (omega arith)
+            ∙ ap (λ (x : List ℕ). head + total x) (take-length l)
+            ∙ sym size-is;
       }
 
 -- ---- bytes with good entries are a bundle
@@ -202,20 +200,20 @@ module _ (bytes : List ℕ) (b : Bytes bytes) (all : AllGood bytes) where
   narrow =
       record {
         starts = λ k h.
-          let there : k < n = omega (arith, many n 0) in
-          let same : 0 + k ≡ k = omega arith in
-          omega (
-            arith,
-            many n 0,
-            begins n 0 k (omega arith),
-            ap (start bytes) same,
-            one k there .in-place,
-            long-fits bytes b (headSize k),
-          );
+            let there : k < n = omega (arith, many n 0) in
+            let same : 0 + k ≡ k = omega arith in
+            omega (
+              arith,
+              many n 0,
+              begins n 0 k (omega arith),
+              ap (start bytes) same,
+              one k there .in-place,
+              long-fits bytes b (headSize k),
+            );
         sizes = λ k h.
-          let there : k < n = omega (arith, many n 0) in
-          let same : 0 + k ≡ k = omega arith in
-          omega (arith, each n 0 k there, ap (long bytes) same, long-fits bytes b (headSize k + 4));
+            let there : k < n = omega (arith, many n 0) in
+            let same : 0 + k ≡ k = omega arith in
+            omega (arith, each n 0 k there, ap (long bytes) same, long-fits bytes b (headSize k + 4));
       }
 
   pub bundle-with : BundleWith bytes n
@@ -225,9 +223,9 @@ module _ (bytes : List ℕ) (b : Bytes bytes) (all : AllGood bytes) where
         made = made ∙ ap (λ (x : List ℕ). bundleOf x (joined found)) (sym longs);
         many = sym (lengths-many found) ∙ ap length longs ∙ many n 0;
         legal =
-          record {
-            counted = subst Counted (sym longs) counted;
-            full = subst Full (sym longs) full;
-            narrow = subst Narrow (sym longs) narrow;
-          };
+            record {
+              counted = subst Counted (sym longs) counted;
+              full = subst Full (sym longs) full;
+              narrow = subst Narrow (sym longs) narrow;
+            };
       }

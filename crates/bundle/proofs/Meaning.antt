@@ -1,7 +1,6 @@
 -- What the reader's answer means: a refusal, that what it names is wrong and all before it is right; and where nothing is wrong, that all
 -- is right. It holds of any list of numbers. Assumes nothing.
 use Prim.Native.Nat.{ℕ, zero, suc, _+_, _-_, _≤_, _<_}
-use mathlib.Core.Bool.{true, false, not}
 use mathlib.Core.List.{List}
 use mathlib.Core.Path.{_≡_, refl, sym, ap, subst, _∙_}
 use native.Mathlib.Decide.{decLt}
@@ -9,13 +8,13 @@ use native.Mathlib.Numerals.{add-one}
 use native.Mathlib.Omega.{arith}
 use lib.Dec.{eqb}
 use lib.ListN.{length}
-use borrow.Author.Tests.{lt-ltb, le-ltb, eqb-true, eqb-false, not-true, not-false}
+use borrow.Author.Tests.{eqb-true, eqb-false}
 use Rattle.pieces.proofs.Tests.{tells-no, isnt, either-way}
 use Rattle.bundle.specs.declared.Entry.{Entry}
 use Rattle.bundle.specs.declared.Reading.{Reading}
 use Rattle.bundle.specs.declared.Reading.the-variants.{Bundle, Short, Count, Table, Offset, Empty, Past, LeftOver}
 use Rattle.bundle.specs.Bundle.{canCount, headSize, entryAt, endOf, readFrom, readOf, imagesIn}
-use Rattle.bundle.specs.Claims.{count, start, LongEnough, CountGood, TableThere, Headed, InPlace, HasBytes, Inside}
+use Rattle.bundle.specs.Claims.{count, start, LongEnough, CountGood, TableThere, Headed, InPlace}
 use Rattle.bundle.specs.Claims.{EntryGood, GoodBelow, AtEntry, Says}
 use Rattle.bundle.proofs.Laws.{count-tells}
 use Rattle.bundle.proofs.Walk.{at-offset, at-empty, at-past, passed, at-left-over, at-end, at-short, at-count, at-table, at-entries}

@@ -1,7 +1,7 @@
 -- The theorems of the bundle. Assumes nothing.
-use Prim.Native.Nat.{ℕ, zero, suc, _+_, _≤_, _<_}
+use Prim.Native.Nat.{ℕ, _+_, _≤_, _<_}
 use mathlib.Core.Bool.{not}
-use mathlib.Core.List.{List, [], _∷_, _++_}
+use mathlib.Core.List.{List, [], _++_}
 use mathlib.Core.Path.{_≡_, refl, sym, ap, ap₂, subst, _∙_}
 use native.Mathlib.Decide.{decLt}
 use native.Mathlib.Omega.{arith}
@@ -16,9 +16,9 @@ use Rattle.bundle.specs.declared.Entry.{Entry}
 use Rattle.bundle.specs.declared.Part.{Part}
 use Rattle.bundle.specs.declared.Reading.{Reading}
 use Rattle.bundle.specs.declared.Reading.the-variants.{Bundle, Short, Count, Table, Offset, Empty, Past, LeftOver}
-use Rattle.bundle.specs.declared.Writing.the-variants.{Wrote, WrongCount, EmptyImage, NoRoom, WrongLengths}
-use Rattle.bundle.specs.Bundle.{canCount, headSize, entryAt, entriesOf, bundleOf, readOf, imagesIn, partOf, imageOf}
-use Rattle.bundle.specs.Bundle.{hasEmpty, fitsIn, total, sizeOf, Left, left, writeOf}
+use Rattle.bundle.specs.declared.Writing.the-variants.{Wrote}
+use Rattle.bundle.specs.Bundle.{canCount, headSize, entriesOf, bundleOf, readOf, imagesIn, imageOf}
+use Rattle.bundle.specs.Bundle.{hasEmpty, fitsIn, total, sizeOf, left, writeOf}
 use Rattle.bundle.specs.Claims.{lengthsOf, joined, Counted, Full, Narrow, Legal, bundled, count, BundleWith, Says, Fits}
 use Rattle.bundle.specs.Claims.{AcceptsExactly, OneReader, HandsBack, OneHandsBack, WritesExactly, OneWriter}
 use Rattle.bundle.specs.Claims.{Holds, ReadWritten, WriteRead, OneBundle, OneOutcome}
@@ -108,19 +108,19 @@ pub hands-back : HandsBack imageOf
 hands-back =
     record {
       of-bundle = λ images legal k.
-        elim (decLt k (length images)) [
-          | yes h ↦ image-some images legal k h
-          | no h ↦
-              image-none (bundled images) k (omega (arith, images-in images legal))
-              ∙ sym (List·getD-eq-default images [] (omega arith))
-        ];
+          elim (decLt k (length images)) [
+            | yes h ↦ image-some images legal k h
+            | no h ↦
+                image-none (bundled images) k (omega (arith, images-in images legal))
+                ∙ sym (List·getD-eq-default images [] (omega arith))
+          ];
       of-other = λ bytes b other k.
-        elim (decLt k (imagesIn (readOf bytes))) [
-          | yes h ↦
-              let w = bundle-with bytes b (accepted-good bytes k h .0) in
-              absurd (other (w .images) (w .legal) (w .made))
-          | no h ↦ image-none bytes k (omega arith)
-        ];
+          elim (decLt k (imagesIn (readOf bytes))) [
+            | yes h ↦
+                let w = bundle-with bytes b (accepted-good bytes k h .0) in
+                absurd (other (w .images) (w .legal) (w .made))
+            | no h ↦ image-none bytes k (omega arith)
+          ];
     }
 
 pub one-hands-back : OneHandsBack
@@ -161,13 +161,13 @@ writes-exactly =
     record {
       wrong-count = λ l images buffer c. laws.wrong-count l images buffer (isnt _ _ (counted-tells l) c);
       empty-image = λ l images buffer c f.
-        laws.empty-image l images buffer (counted-tells l .is c) (not-false (hasEmpty l) (isnt _ _ (full-tells l) f));
+          laws.empty-image l images buffer (counted-tells l .is c) (not-false (hasEmpty l) (isnt _ _ (full-tells l) f));
       no-room = λ l images buffer c f r.
-        laws.no-room l images buffer (counted-tells l .is c) (not-true (hasEmpty l) (full-tells l .is f))
-        (isnt _ _ (fits-tells (length buffer) l) r);
+          laws.no-room l images buffer (counted-tells l .is c) (not-true (hasEmpty l) (full-tells l .is f))
+          (isnt _ _ (fits-tells (length buffer) l) r);
       wrong-lengths = λ l images buffer c f r t.
-        laws.wrong-lengths l images buffer (counted-tells l .is c) (not-true (hasEmpty l) (full-tells l .is f))
-        (fits-tells (length buffer) l .is r) t;
+          laws.wrong-lengths l images buffer (counted-tells l .is c) (not-true (hasEmpty l) (full-tells l .is f))
+          (fits-tells (length buffer) l .is r) t;
       wrote = wrote-bundle;
     }
 
@@ -261,7 +261,7 @@ one-bundle =
     record {
       same = λ bytes other images b c h i. held bytes images b h .0 ∙ sym (held other images c i .0);
       has-one = λ images buffer n e.
-        holds-bundled images (written-legal images buffer n (taken (lengthsOf images) (joined images) buffer n e));
+          holds-bundled images (written-legal images buffer n (taken (lengthsOf images) (joined images) buffer n e));
     }
 
 pub one-outcome : OneOutcome

@@ -1,17 +1,17 @@
 -- What each test of the writer tells of the lengths, and what a writing that went well tells of them. Assumes nothing.
 use Prim.Native.Nat.{ℕ, zero, suc, _+_, _^_, _≤_, _<_}
-use mathlib.Core.Bool.{Bool, true, false, not, cond, true≢false, false≢true}
+use mathlib.Core.Bool.{true, false, not, true≢false}
 use mathlib.Core.List.{List, [], _∷_, _++_}
 use mathlib.Core.Path.{_≡_, refl, sym, ap, _∙_}
 use native.Mathlib.Omega.{arith}
-use lib.Dec.{eqb, leb}
+use lib.Dec.{eqb}
 use lib.ListN.{length, getD, take, drop}
 use borrow.Author.Tests.{eqb-true, eqb-false, eq-eqb, ne-eqb, le-leb, lt-leb, not-true}
-use Rattle.pieces.proofs.Tests.{Tells, alike, isnt, either-way, equal}
+use Rattle.pieces.proofs.Tests.{Tells, alike, either-way}
 use Rattle.bundle.specs.declared.Writing.{Writing}
 use Rattle.bundle.specs.declared.Writing.the-variants.{Wrote, WrongCount, EmptyImage, NoRoom, WrongLengths}
 use Rattle.bundle.specs.Bundle.{canCount, headSize, bundleOf, hasEmpty, fitsIn, total, sizeOf, Left, left, writeOf}
-use Rattle.bundle.specs.Claims.{Counted, Full, Narrow, Fits}
+use Rattle.bundle.specs.Claims.{Counted, Full, Fits}
 use Rattle.bundle.proofs.Laws.{count-tells, fits-on, fits-total}
 use Rattle.bundle.proofs.Laws as laws
 use Rattle.bundle.proofs.Meaning.{positive, nonzero}
@@ -66,11 +66,11 @@ pub fits-tells : (room : ℕ) (l : List ℕ) → Tells (fitsIn room (headSize (l
 fits-tells room l =
     record {
       yes = λ e.
-        let each = fits-narrow room (headSize (length l)) l e in
-        record {
-          narrow = record { starts = λ k h. each k h .0; sizes = λ k h. each k h .1 };
-          within = fits-total room (headSize (length l)) l e;
-        };
+          let each = fits-narrow room (headSize (length l)) l e in
+          record {
+            narrow = record { starts = λ k h. each k h .0; sizes = λ k h. each k h .1 };
+            within = fits-total room (headSize (length l)) l e;
+          };
       is = λ f. narrow-fits room (headSize (length l)) l (λ k h. (f .narrow .starts k h, f .narrow .sizes k h)) (f .within);
     }
 

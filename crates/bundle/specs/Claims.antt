@@ -1,6 +1,6 @@
 -- What is promised of bundles, as claims about any reader and any writer. A bundle is here a list of images and not lengths and bytes.
 use Prim.Native.Nat.{ℕ, zero, suc, _+_, _*_, _^_, _≤_, _<_}
-use mathlib.Core.List.{List, [], _∷_, _++_, map}
+use mathlib.Core.List.{List, [], _∷_, _++_}
 use mathlib.Core.Path.{_≡_}
 use lib.ListN.{length, getD, take, drop}
 use Rattle.numbers.specs.Numbers.{wordAt, longAt}
@@ -8,9 +8,8 @@ use Rattle.pieces.specs.Claims.{Bytes, Exactly}
 use Rattle.bundle.specs.declared.Part.{Part}
 use Rattle.bundle.specs.declared.Reading.{Reading}
 use Rattle.bundle.specs.declared.Reading.the-variants.{Bundle, Short, Count, Table, Offset, Empty, Past, LeftOver}
-use Rattle.bundle.specs.declared.Writing.{Writing}
 use Rattle.bundle.specs.declared.Writing.the-variants.{Wrote, WrongCount, EmptyImage, NoRoom, WrongLengths}
-use Rattle.bundle.specs.Bundle.{bundleOf, total, sizeOf, readOf, partOf, imageOf, Left, left, writeOf}
+use Rattle.bundle.specs.Bundle.{bundleOf, total, readOf, partOf, imageOf, Left, left, writeOf}
 
 -- ---- lists of images
 

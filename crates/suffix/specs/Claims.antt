@@ -2,7 +2,7 @@
 use Prim.Native.Nat.{ℕ, _+_, _-_, _^_, _≤_, _<_}
 use mathlib.Core.List.{List, [], _∷_, _++_}
 use mathlib.Core.Path.{_≡_}
-use lib.ListN.{length, getD, take, drop}
+use lib.ListN.{length, take, drop}
 use Rattle.numbers.specs.Numbers.{bytes4}
 use Rattle.crc.specs.Crc.{crcOf}
 use Rattle.pieces.specs.Claims.{Bytes, Exactly}

@@ -1,21 +1,16 @@
+-- The bytes of the offset, then those of the length. Assumes nothing.
 use mathlib.Core.List.{_++_}
 use mathlib.Core.Path.{ap₂}
 use borrow.Author.Needs.{needs}
 use Rattle.bundle.proofs.entry_bytes.Statement.{statement}
 use Rattle.bundle.proofs.entry_bytes.Tie as tie
-use Rattle.bundle.proofs.entry_bytes.Reads as reads
-use Rattle.bundle.proofs.entry_bytes.Lts as lts
-use Rattle.numbers.proofs.low4.Reads as low4-reads
 
--- src/lib.rt:232:9
 low4-requires : tie.Need-low4-requires
 low4-requires c κs = search needs
 
--- src/lib.rt:233:9
 low4-requires-2 : tie.Need-low4-requires-2
 low4-requires-2 c κs = search needs
 
--- src/lib.rt:229:1
 returns : tie.Need-returns
 returns c = ap₂ _++_ (c .before .low4 .ensures) (c .low42 .ensures)
 

@@ -1,15 +1,13 @@
-use Rattle.bundle.proofs.Laws.{count-tells, fits-not, fits-next, fits-end, narrow}
+-- The invariant: the lengths that are left fit from here on if and only if all do from the first image on. Assumes nothing.
+use Prim.Native.Nat.{ℕ, _≤_, _-_}
+use mathlib.Core.Path.{_≡_, sym, ap, _∙_}
+use native.Mathlib.Omega.{arith}
+use lib.ListN.{length, getD, drop}
 use borrow.Author.Needs.{needs}
 use Rattle.bundle.specs.Bundle.{headSize, fitsIn}
-use lib.ListN.{length, getD, drop}
-use native.Mathlib.Omega.{arith}
-use mathlib.Core.Path.{_≡_, refl, sym, ap, _∙_}
-use Prim.Native.Nat.{ℕ, _≤_, _-_}
+use Rattle.bundle.proofs.Laws.{count-tells, fits-not, fits-next, fits-end, narrow}
 use Rattle.bundle.proofs.fits_in.Statement.{statement}
 use Rattle.bundle.proofs.fits_in.Tie as tie
-use Rattle.bundle.proofs.fits_in.Reads as reads
-use Rattle.bundle.proofs.fits_in.Lts as lts
-use Rattle.bundle.proofs.head.Reads as head-reads
 
 abbrev Inv-loop : tie.InvT-loop
 Inv-loop room lengths at₀ k₀ at k =
@@ -18,7 +16,6 @@ Inv-loop room lengths at₀ k₀ at k =
 abbrev μ-loop : tie.MeasureT-loop
 μ-loop room lengths at₀ k₀ at k = length lengths - k
 
--- src/lib.rt:203:18
 head-requires : tie.Need-head-requires Inv-loop μ-loop
 head-requires c κs = omega (arith, count-tells (length (c .before .args .lengths .now)) .yes (c .before .pre) .1)
 

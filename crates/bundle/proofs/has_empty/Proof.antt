@@ -1,14 +1,13 @@
-use Rattle.bundle.proofs.Laws.{empty-here, empty-later, empty-none}
+-- The invariant: among the lengths that are left is a zero if and only if there is one among all. Assumes nothing.
+use Prim.Native.Nat.{_≤_, _-_}
+use mathlib.Core.Path.{_≡_, refl, sym, _∙_}
+use native.Mathlib.Omega.{arith}
+use lib.ListN.{length, drop}
 use borrow.Author.Needs.{needs}
 use Rattle.bundle.specs.Bundle.{hasEmpty}
-use lib.ListN.{length, drop}
-use native.Mathlib.Omega.{arith}
-use mathlib.Core.Path.{_≡_, refl, sym, _∙_}
-use Prim.Native.Nat.{_≤_, _-_}
+use Rattle.bundle.proofs.Laws.{empty-here, empty-later, empty-none}
 use Rattle.bundle.proofs.has_empty.Statement.{statement}
 use Rattle.bundle.proofs.has_empty.Tie as tie
-use Rattle.bundle.proofs.has_empty.Reads as reads
-use Rattle.bundle.proofs.has_empty.Lts as lts
 
 abbrev Inv-loop : tie.InvT-loop
 Inv-loop lengths k₀ k = (k ≤ length lengths) × (hasEmpty (drop k lengths) ≡ hasEmpty lengths)
@@ -16,7 +15,6 @@ Inv-loop lengths k₀ k = (k ≤ length lengths) × (hasEmpty (drop k lengths) �
 abbrev μ-loop : tie.MeasureT-loop
 μ-loop lengths k₀ k = length lengths - k
 
--- src/lib.rt:189:5
 loop-holds : tie.Need-loop-holds Inv-loop μ-loop
 loop-holds c = (omega arith, refl)
 

@@ -1,17 +1,14 @@
-use Rattle.bundle.proofs.Walk.{none-in}
-use Rattle.bundle.specs.Bundle.{imagesIn}
+-- The count of a bundle; every refusal has none. Assumes nothing.
 use mathlib.Core.Path.{sym, ap}
 use borrow.Author.Needs.{needs}
+use Rattle.bundle.specs.Bundle.{imagesIn}
+use Rattle.bundle.proofs.Walk.{none-in}
 use Rattle.bundle.proofs.images.Statement.{statement}
 use Rattle.bundle.proofs.images.Tie as tie
-use Rattle.bundle.proofs.images.Reads as reads
-use Rattle.bundle.proofs.images.Lts as lts
 
--- src/lib.rt:157:27
 enum-known-reading : tie.Need-enum-known-reading
 enum-known-reading c = search needs
 
--- src/lib.rt:153:1
 returns : tie.Need-returns
 unfolding imagesIn
 returns c = ap imagesIn (sym (c .before .reading .given .1))

@@ -1,20 +1,15 @@
-use Rattle.bundle.specs.Bundle.{headSize, fitsIn}
+-- Count, entries and images are laid one behind the other. Assumes nothing.
+use Prim.Native.Nat.{ℕ}
 use mathlib.Core.Path.{_≡_, sym, subst}
 use mathlib.Core.Bool.{true}
-use Prim.Native.Nat.{ℕ}
-use Rattle.bundle.proofs.Laws.{count-tells, writable-room, entries-long, laid-bundle}
-use lib.ListN.{length}
 use native.Mathlib.Omega.{arith}
+use lib.ListN.{length}
 use borrow.Author.Needs.{needs}
+use Rattle.bundle.specs.Bundle.{headSize, fitsIn}
+use Rattle.bundle.proofs.Laws.{count-tells, writable-room, entries-long, laid-bundle}
 use Rattle.bundle.proofs.lay.Statement.{statement}
 use Rattle.bundle.proofs.lay.Tie as tie
-use Rattle.bundle.proofs.lay.Reads as reads
-use Rattle.bundle.proofs.lay.Lts as lts
-use Rattle.bundle.proofs.lay_entries.Reads as lay-entries-reads
-use Rattle.numbers.proofs.low2.Reads as low2-reads
-use Rattle.pieces.proofs.put.Reads as put-reads
 
--- src/lib.rt:268:31
 cast-low2 : tie.Need-cast-low2
 cast-low2 c =
     let s = c .before .before .before in
@@ -23,11 +18,9 @@ cast-low2 c =
 low2-requires : tie.Need-low2-requires
 low2-requires c κs = search needs
 
--- src/lib.rt:269:17
 slice-aggregate-put : tie.Need-slice-aggregate-put
 slice-aggregate-put c = search needs
 
--- src/lib.rt:269:5
 put-requires : tie.Need-put-requires
 put-requires c κs =
     let s = c .before .before .before .before .before .before in
@@ -60,7 +53,6 @@ put-requires-2 c κs =
 same-length : tie.Need-same-length
 same-length c = search needs
 
--- src/lib.rt:262:1
 returns : tie.Need-returns
 returns c =
     let last = c .before .before in

@@ -1,19 +1,15 @@
-use Rattle.bundle.proofs.Laws.{fits-on, entries-next, entries-none}
-use borrow.Author.Needs.{needs}
-use Rattle.bundle.specs.Bundle.{headSize, fitsIn, entriesOf}
-use Rattle.pieces.proofs.Laws.{Owed, owed-all, owed-less, owed-none}
-use lib.ListN.{length, getD, drop}
-use native.Mathlib.Omega.{arith}
-use mathlib.Core.Path.{_≡_, refl, sym, ap, _∙_}
-use mathlib.Core.Bool.{true}
+-- The invariant: the entries that are left, laid from here on, give what all of them give. Assumes nothing.
 use Prim.Native.Nat.{ℕ, _≤_, _-_}
+use mathlib.Core.Path.{_≡_, refl, ap, _∙_}
+use mathlib.Core.Bool.{true}
+use native.Mathlib.Omega.{arith}
+use lib.ListN.{length, drop}
+use borrow.Author.Needs.{needs}
+use Rattle.pieces.proofs.Laws.{Owed, owed-all, owed-less, owed-none}
+use Rattle.bundle.specs.Bundle.{headSize, fitsIn, entriesOf}
+use Rattle.bundle.proofs.Laws.{fits-on, entries-next, entries-none}
 use Rattle.bundle.proofs.lay_entries.Statement.{statement}
 use Rattle.bundle.proofs.lay_entries.Tie as tie
-use Rattle.bundle.proofs.lay_entries.Reads as reads
-use Rattle.bundle.proofs.lay_entries.Lts as lts
-use Rattle.bundle.proofs.entry_bytes.Reads as entry-bytes-reads
-use Rattle.bundle.proofs.head.Reads as head-reads
-use Rattle.pieces.proofs.put.Reads as put-reads
 
 abbrev Inv-loop : tie.InvT-loop
 Inv-loop lengths buffer₀ offset₀ at₀ k₀ buffer offset at k =
@@ -26,7 +22,6 @@ Inv-loop lengths buffer₀ offset₀ at₀ k₀ buffer offset at k =
 abbrev μ-loop : tie.MeasureT-loop
 μ-loop lengths buffer₀ offset₀ at₀ k₀ buffer offset at k = length lengths - k
 
--- src/lib.rt:245:22
 head-requires : tie.Need-head-requires Inv-loop μ-loop
 head-requires c κs = search needs
 

@@ -1,29 +1,21 @@
-use Rattle.bundle.specs.Bundle.{imagesIn, endOf, readOf}
+-- An image below the count of what was read lies within the file. Assumes nothing.
 use Prim.Native.Nat.{_<_}
-use Rattle.bundle.specs.declared.Part.{Part}
-use Rattle.bundle.specs.declared.Entry.{Entry}
-use Rattle.bundle.proofs.Meaning.{image-inside}
-use Rattle.bundle.proofs.Walk.{part-none, part-some}
 use mathlib.Core.Path.{sym, ap, _∙_}
 use native.Mathlib.Omega.{arith}
 use borrow.Author.Needs.{needs}
+use Rattle.bundle.specs.declared.Entry.{Entry}
+use Rattle.bundle.specs.Bundle.{imagesIn, endOf, readOf}
+use Rattle.bundle.proofs.Meaning.{image-inside}
+use Rattle.bundle.proofs.Walk.{part-none, part-some}
 use Rattle.bundle.proofs.part_of.Statement.{statement}
 use Rattle.bundle.proofs.part_of.Tie as tie
-use Rattle.bundle.proofs.part_of.Reads as reads
-use Rattle.bundle.proofs.part_of.Lts as lts
-use Rattle.bundle.proofs.entry_at.Reads as entry-at-reads
-use Rattle.bundle.proofs.images.Reads as images-reads
-use Rattle.bundle.proofs.read.Reads as read-reads
 
--- src/lib.rt:166:15
 read-requires : tie.Need-read-requires
 read-requires c κs = search needs
 
--- src/lib.rt:166:8
 images-requires : tie.Need-images-requires
 images-requires c κs = search needs
 
--- src/lib.rt:167:9
 returns : tie.Need-returns
 returns c =
     let n = c .before in
@@ -41,11 +33,9 @@ entry-at-requires c κs =
 cast-t4 : tie.Need-cast-t4
 cast-t4 c = search needs
 
--- src/lib.rt:172:17
 cast-t7 : tie.Need-cast-t7
 cast-t7 c = search needs
 
--- src/lib.rt:163:1
 returns-2 : tie.Need-returns-2
 returns-2 c =
     let e = c .before .before in

@@ -1,33 +1,24 @@
-use Rattle.bundle.proofs.Walk.{at-short, at-count, at-table, at-entries}
-use borrow.Author.Tests.{not-true, not-false}
-use mathlib.Core.Path.{sym, ap, _∙_}
+-- The three tests of the head, then the entries. Assumes nothing.
+use mathlib.Core.Path.{sym, _∙_}
 use native.Mathlib.Omega.{arith}
+use borrow.Author.Tests.{not-true, not-false}
 use borrow.Author.Needs.{needs}
+use Rattle.bundle.proofs.Walk.{at-short, at-count, at-table, at-entries}
 use Rattle.bundle.proofs.read.Statement.{statement}
 use Rattle.bundle.proofs.read.Tie as tie
-use Rattle.bundle.proofs.read.Reads as reads
-use Rattle.bundle.proofs.read.Lts as lts
-use Rattle.bundle.proofs.can_count.Reads as can-count-reads
-use Rattle.bundle.proofs.head.Reads as head-reads
-use Rattle.bundle.proofs.read_entries.Reads as read-entries-reads
-use Rattle.numbers.proofs.word.Reads as word-reads
 
--- src/lib.rt:124:9
 returns : tie.Need-returns
 returns c = sym (at-short _ (c .if1 .taken))
 
 word-requires : tie.Need-word-requires
 word-requires c κs = search needs
 
--- src/lib.rt:126:17
 cast-count : tie.Need-cast-count
 cast-count c = search needs
 
--- src/lib.rt:127:9
 can-count-requires : tie.Need-can-count-requires
 can-count-requires c κs = search needs
 
--- src/lib.rt:128:9
 returns-2 : tie.Need-returns-2
 returns-2 c =
     let n = c .before in
@@ -37,7 +28,6 @@ returns-2 c =
 head-requires : tie.Need-head-requires
 head-requires c κs = search needs
 
--- src/lib.rt:131:9
 returns-3 : tie.Need-returns-3
 returns-3 c =
     let n = c .before .before .before in
@@ -49,7 +39,6 @@ returns-3 c =
 read-entries-requires : tie.Need-read-entries-requires
 read-entries-requires c κs = search needs
 
--- src/lib.rt:120:1
 returns-4 : tie.Need-returns-4
 returns-4 c =
     let h = c .before .before in

@@ -1,16 +1,12 @@
+-- The invariant: what is read from here on is what is read from the first entry on. Assumes nothing.
 use Prim.Native.Nat.{ℕ, _+_, _≤_, _-_}
-use mathlib.Core.Path.{_≡_, refl, sym, ap, ap₂, _∙_}
-use Rattle.bundle.proofs.Walk.{at-offset, at-empty, at-past, passed, at-left-over, at-end}
-use borrow.Author.Needs.{needs}
+use mathlib.Core.Path.{_≡_, sym, ap₂, _∙_}
 use native.Mathlib.Omega.{arith}
+use borrow.Author.Needs.{needs}
 use Rattle.bundle.specs.Bundle.{headSize, readFrom}
+use Rattle.bundle.proofs.Walk.{at-offset, at-empty, at-past, passed, at-left-over, at-end}
 use Rattle.bundle.proofs.read_entries.Statement.{statement}
 use Rattle.bundle.proofs.read_entries.Tie as tie
-use Rattle.bundle.proofs.read_entries.Reads as reads
-use Rattle.bundle.proofs.read_entries.Lts as lts
-use Rattle.bundle.proofs.end.Reads as end-reads
-use Rattle.bundle.proofs.entry_at.Reads as entry-at-reads
-use Rattle.bundle.proofs.head.Reads as head-reads
 
 abbrev Inv-loop : tie.InvT-loop
 Inv-loop file count size at₀ k₀ at k =
@@ -19,7 +15,6 @@ Inv-loop file count size at₀ k₀ at k =
 abbrev μ-loop : tie.MeasureT-loop
 μ-loop file count size at₀ k₀ at k = count - k
 
--- src/lib.rt:97:18
 head-requires : tie.Need-head-requires Inv-loop μ-loop
 head-requires c κs = search needs
 

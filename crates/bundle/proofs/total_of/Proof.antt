@@ -1,14 +1,13 @@
-use Rattle.bundle.proofs.Laws.{total-next, total-none}
+-- The invariant: the sum so far and the lengths that are left are the total. Assumes nothing.
+use Prim.Native.Nat.{_+_, _≤_, _-_}
+use mathlib.Core.Path.{_≡_}
+use native.Mathlib.Omega.{arith}
+use lib.ListN.{length, drop}
 use borrow.Author.Needs.{needs}
 use Rattle.bundle.specs.Bundle.{total}
-use lib.ListN.{length, drop}
-use native.Mathlib.Omega.{arith}
-use mathlib.Core.Path.{_≡_, refl, sym, _∙_}
-use Prim.Native.Nat.{_+_, _≤_, _-_}
+use Rattle.bundle.proofs.Laws.{total-next, total-none}
 use Rattle.bundle.proofs.total_of.Statement.{statement}
 use Rattle.bundle.proofs.total_of.Tie as tie
-use Rattle.bundle.proofs.total_of.Reads as reads
-use Rattle.bundle.proofs.total_of.Lts as lts
 
 abbrev Inv-loop : tie.InvT-loop
 Inv-loop lengths sum₀ k₀ sum k = (k ≤ length lengths) × (sum + total (drop k lengths) ≡ total lengths)
@@ -16,7 +15,6 @@ Inv-loop lengths sum₀ k₀ sum k = (k ≤ length lengths) × (sum + total (dro
 abbrev μ-loop : tie.MeasureT-loop
 μ-loop lengths sum₀ k₀ sum k = length lengths - k
 
--- src/lib.rt:222:5
 loop-holds : tie.Need-loop-holds Inv-loop μ-loop
 loop-holds c = (omega arith, omega arith)
 

@@ -1,33 +1,24 @@
-use Rattle.bundle.proofs.Laws.{fits-total, wrong-count, empty-image, no-room, wrong-lengths, wrote}
-use Rattle.bundle.specs.Bundle.{headSize, fitsIn}
-use borrow.Author.Tests.{not-true, not-false}
-use lib.ListN.{length}
-use mathlib.Core.Bool.{true, false}
+-- Test by test, then what was laid. Assumes nothing.
+use mathlib.Core.Bool.{true}
 use mathlib.Core.Path.{_≡_, sym, _∙_}
 use native.Mathlib.Omega.{arith}
+use lib.ListN.{length}
+use borrow.Author.Tests.{not-true, not-false}
 use borrow.Author.Needs.{needs}
+use Rattle.bundle.specs.Bundle.{headSize, fitsIn}
+use Rattle.bundle.proofs.Laws.{fits-total, wrong-count, empty-image, no-room, wrong-lengths, wrote}
 use Rattle.bundle.proofs.write.Statement.{statement}
 use Rattle.bundle.proofs.write.Tie as tie
-use Rattle.bundle.proofs.write.Reads as reads
-use Rattle.bundle.proofs.write.Lts as lts
-use Rattle.bundle.proofs.can_count.Reads as can-count-reads
-use Rattle.bundle.proofs.fits_in.Reads as fits-in-reads
-use Rattle.bundle.proofs.has_empty.Reads as has-empty-reads
-use Rattle.bundle.proofs.lay.Reads as lay-reads
-use Rattle.bundle.proofs.total_of.Reads as total-of-reads
 
--- src/lib.rt:278:9
 can-count-requires : tie.Need-can-count-requires
 can-count-requires c κs = search needs
 
--- src/lib.rt:279:9
 returns : tie.Need-returns
 returns c = sym (wrong-count _ _ _ (sym (c .before .can-count .ensures) ∙ not-true _ (c .if1 .taken)))
 
 has-empty-requires : tie.Need-has-empty-requires
 has-empty-requires c κs = search needs
 
--- src/lib.rt:282:9
 returns-2 : tie.Need-returns-2
 returns-2 c =
     let one = c .before .before in
@@ -73,7 +64,6 @@ lay-requires c κs =
 same-length : tie.Need-same-length
 same-length c = search needs
 
--- src/lib.rt:275:1
 returns-5 : tie.Need-returns-5
 returns-5 c =
     let lay = c .before .before in

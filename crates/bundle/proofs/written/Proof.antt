@@ -1,17 +1,14 @@
-use Rattle.bundle.proofs.Laws.{none-written}
-use Rattle.bundle.specs.Bundle.{bytesWritten}
+-- The count of what was written; every refusal has none. Assumes nothing.
 use mathlib.Core.Path.{sym, ap}
 use borrow.Author.Needs.{needs}
+use Rattle.bundle.specs.Bundle.{bytesWritten}
+use Rattle.bundle.proofs.Laws.{none-written}
 use Rattle.bundle.proofs.written.Statement.{statement}
 use Rattle.bundle.proofs.written.Tie as tie
-use Rattle.bundle.proofs.written.Reads as reads
-use Rattle.bundle.proofs.written.Lts as lts
 
--- src/lib.rt:319:26
 enum-known-writing : tie.Need-enum-known-writing
 enum-known-writing c = search needs
 
--- src/lib.rt:315:1
 returns : tie.Need-returns
 unfolding bytesWritten
 returns c = ap bytesWritten (sym (c .before .writing .given .1))

@@ -1,32 +1,23 @@
-use Rattle.files.specs.Files.{toldBundled, atHost, bundleWritten}
-use Rattle.bundle.specs.Bundle.{Left}
+-- What was written is heard by its number and its count, and the buffer is as it was left. Assumes nothing.
 use mathlib.Core.Path.{ap}
 use borrow.Author.Needs.{needs}
+use Rattle.bundle.specs.Bundle.{Left}
+use Rattle.files.specs.Files.{toldBundled, atHost, bundleWritten}
 use Rattle.files.proofs.mullirim_bundle_write.Statement.{statement}
 use Rattle.files.proofs.mullirim_bundle_write.Tie as tie
-use Rattle.files.proofs.mullirim_bundle_write.Reads as reads
-use Rattle.files.proofs.mullirim_bundle_write.Lts as lts
-use Rattle.bundle.proofs.unwritten.Reads as unwritten-reads
-use Rattle.bundle.proofs.write.Reads as write-reads
-use Rattle.bundle.proofs.written.Reads as written-reads
 
--- src/lib.rt:97:9
 write-requires : tie.Need-write-requires
 write-requires c κs = search needs
 
--- src/lib.rt:99:18
 unwritten-requires : tie.Need-unwritten-requires
 unwritten-requires c κs = search needs
 
--- src/lib.rt:100:16
 written-requires : tie.Need-written-requires
 written-requires c κs = search needs
 
--- src/lib.rt:93:1
 same-length : tie.Need-same-length
 same-length c = search needs
 
--- src/lib.rt:93:1
 returns : tie.Need-returns
 unfolding toldBundled bundleWritten
 returns c =

@@ -1,24 +1,17 @@
-use Rattle.listing.proofs.Laws.{two-digits}
-use Rattle.pieces.proofs.Laws.{laid-more}
-use lib.ListN.{length, length-append}
+-- The word, the count and the line feed are laid one behind the other. Assumes nothing.
 use native.Mathlib.Omega.{arith}
 use borrow.Author.Needs.{needs}
+use Rattle.pieces.proofs.Laws.{laid-more}
+use Rattle.listing.proofs.Laws.{two-digits}
 use Rattle.listing.proofs.first_line.Statement.{statement}
 use Rattle.listing.proofs.first_line.Tie as tie
-use Rattle.listing.proofs.first_line.Reads as reads
-use Rattle.listing.proofs.first_line.Lts as lts
-use Rattle.pieces.proofs.put.Reads as put-reads
-use Rattle.print.proofs.decimal.Reads as decimal-reads
 
--- src/lib.rt:70:28
 slice-aggregate-put : tie.Need-slice-aggregate-put
 slice-aggregate-put c = search needs
 
--- src/lib.rt:70:9
 put-requires : tie.Need-put-requires
 put-requires c κs = search needs
 
--- src/lib.rt:71:9
 decimal-requires : tie.Need-decimal-requires
 decimal-requires c κs =
     let word = c .before .before .before in
@@ -28,7 +21,6 @@ decimal-requires c κs =
 slice-aggregate-put-2 : tie.Need-slice-aggregate-put-2
 slice-aggregate-put-2 c = search needs
 
--- src/lib.rt:72:5
 put-requires-2 : tie.Need-put-requires-2
 put-requires-2 c κs =
     let number = c .before .before .before .before in
@@ -47,7 +39,6 @@ put-requires-2 c κs =
 same-length : tie.Need-same-length
 same-length c = search needs
 
--- src/lib.rt:66:1
 returns : tie.Need-returns
 returns c =
     let feed = c .before .before in

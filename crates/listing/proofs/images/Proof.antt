@@ -1,29 +1,22 @@
-use Rattle.listing.specs.Listing.{listed}
-use Rattle.listing.proofs.Laws.{too-long, short-enough}
-use Rattle.bundle.proofs.Meaning.{few-images}
-use Rattle.bundle.specs.Bundle.{imagesIn}
+-- None of a file that is too long; else what was read. Assumes nothing.
 use mathlib.Core.Path.{sym, ap, _∙_}
 use native.Mathlib.Omega.{arith}
 use borrow.Author.Needs.{needs}
+use Rattle.bundle.proofs.Meaning.{few-images}
+use Rattle.bundle.specs.Bundle.{imagesIn}
+use Rattle.listing.proofs.Laws.{too-long, short-enough}
 use Rattle.listing.proofs.images.Statement.{statement}
 use Rattle.listing.proofs.images.Tie as tie
-use Rattle.listing.proofs.images.Reads as reads
-use Rattle.listing.proofs.images.Lts as lts
-use Rattle.bundle.proofs.images.Reads as images-reads
-use Rattle.bundle.proofs.read.Reads as read-reads
 
--- src/lib.rt:19:9
 returns : tie.Need-returns
 returns c = (sym (too-long (c .before .before .args .file .now) (c .if1 .taken)), omega arith)
 
 read-requires : tie.Need-read-requires
 read-requires c κs = search needs
 
--- src/lib.rt:21:5
 images-requires : tie.Need-images-requires
 images-requires c κs = search needs
 
--- src/lib.rt:15:1
 returns-2 : tie.Need-returns-2
 returns-2 c =
     let file = c .before .before .before .before .args .file .now in

@@ -1,17 +1,13 @@
-use Rattle.listing.proofs.Laws.{two-digits, five-digits, laid-line}
-use Rattle.listing.specs.Listing.{space}
-use Rattle.print.specs.Decimal.{decimalOf}
-use lib.ListN.{length, length-append}
+-- Number, length and sum are laid one behind the other, and have 18 bytes at most. Assumes nothing.
 use native.Mathlib.Omega.{arith}
+use lib.ListN.{length, length-append}
 use borrow.Author.Needs.{needs}
+use Rattle.print.specs.Decimal.{decimalOf}
+use Rattle.listing.specs.Listing.{space}
+use Rattle.listing.proofs.Laws.{two-digits, five-digits, laid-line}
 use Rattle.listing.proofs.line.Statement.{statement}
 use Rattle.listing.proofs.line.Tie as tie
-use Rattle.listing.proofs.line.Reads as reads
-use Rattle.listing.proofs.line.Lts as lts
-use Rattle.listing.proofs.number.Reads as number-reads
-use Rattle.listing.proofs.sum.Reads as sum-reads
 
--- src/lib.rt:48:9
 number-requires : tie.Need-number-requires
 number-requires c κs =
     let s = c .before .before .before in
@@ -56,7 +52,6 @@ sum-requires c κs =
 same-length : tie.Need-same-length
 same-length c = search needs
 
--- src/lib.rt:44:1
 returns : tie.Need-returns
 returns c =
     let three = c .before .before in

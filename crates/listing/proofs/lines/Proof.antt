@@ -1,18 +1,15 @@
-use Rattle.listing.proofs.Laws.{lines-next, lines-none, image-short}
-use Rattle.listing.specs.Listing.{lineOf, linesFrom}
-use Rattle.pieces.proofs.Laws.{Owed, owed-all, owed-less, owed-none}
-use borrow.Author.Needs.{needs}
-use lib.ListN.{length}
-use native.Mathlib.Omega.{arith}
+-- The invariant: the lines that are left, laid from here on, give what all of them give. Assumes nothing.
+use Prim.Native.Nat.{ℕ, _+_, _*_, _≤_, _-_}
 use mathlib.Core.List.{List, _++_}
 use mathlib.Core.Path.{_≡_, refl, sym, ap, _∙_}
-use Prim.Native.Nat.{ℕ, _+_, _*_, _≤_, _-_}
+use native.Mathlib.Omega.{arith}
+use lib.ListN.{length}
+use borrow.Author.Needs.{needs}
+use Rattle.pieces.proofs.Laws.{Owed, owed-all, owed-less, owed-none}
+use Rattle.listing.specs.Listing.{lineOf, linesFrom}
+use Rattle.listing.proofs.Laws.{lines-next, lines-none, image-short}
 use Rattle.listing.proofs.lines.Statement.{statement}
 use Rattle.listing.proofs.lines.Tie as tie
-use Rattle.listing.proofs.lines.Reads as reads
-use Rattle.listing.proofs.lines.Lts as lts
-use Rattle.bundle.proofs.image.Reads as image-reads
-use Rattle.listing.proofs.line.Reads as line-reads
 
 abbrev Inv-loop : tie.InvT-loop
 Inv-loop file count text₀ at end₀ k₀ text end k =
@@ -24,7 +21,6 @@ Inv-loop file count text₀ at end₀ k₀ text end k =
 abbrev μ-loop : tie.MeasureT-loop
 μ-loop file count text₀ at end₀ k₀ text end k = count - k
 
--- src/lib.rt:59:5
 loop-holds : tie.Need-loop-holds Inv-loop μ-loop
 loop-holds c =
     let a = c .before .before .args in

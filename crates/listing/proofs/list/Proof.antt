@@ -1,17 +1,11 @@
-use Rattle.listing.proofs.Laws.{some-listed, laid-refused, laid-list}
-use mathlib.Core.Path.{refl, sym, _∙_}
-use borrow.Author.Needs.{needs}
+-- One line for what is not listed; else the first line and those of the images. Assumes nothing.
+use mathlib.Core.Path.{refl, _∙_}
 use native.Mathlib.Omega.{arith}
+use borrow.Author.Needs.{needs}
+use Rattle.listing.proofs.Laws.{some-listed, laid-refused, laid-list}
 use Rattle.listing.proofs.list.Statement.{statement}
 use Rattle.listing.proofs.list.Tie as tie
-use Rattle.listing.proofs.list.Reads as reads
-use Rattle.listing.proofs.list.Lts as lts
-use Rattle.listing.proofs.first_line.Reads as first-line-reads
-use Rattle.listing.proofs.images.Reads as images-reads
-use Rattle.listing.proofs.lines.Reads as lines-reads
-use Rattle.pieces.proofs.put.Reads as put-reads
 
--- src/lib.rt:80:9
 images-requires : tie.Need-images-requires
 images-requires c κs = tt
 

@@ -1,37 +1,28 @@
-use Rattle.pieces.proofs.Laws.{put-rest}
+-- A copy to the front of the buffer's rest. Assumes nothing.
 use mathlib.Core.Path.{refl}
 use borrow.Author.Needs.{needs}
+use Rattle.pieces.proofs.Laws.{put-rest}
 use Rattle.pieces.proofs.put.Statement.{statement}
 use Rattle.pieces.proofs.put.Tie as tie
-use Rattle.pieces.proofs.put.Reads as reads
-use Rattle.pieces.proofs.put.Lts as lts
-use Rattle.bytes.proofs.copy.Reads as copy-reads
 
--- src/lib.rt:11:24
 sub-copy : tie.Need-sub-copy
 sub-copy c = search needs
 
--- src/lib.rt:11:24
 part-copy-start : tie.Need-part-copy-start
 part-copy-start c = search needs
 
--- src/lib.rt:11:24
 part-copy-end : tie.Need-part-copy-end
 part-copy-end c = search needs
 
--- src/lib.rt:11:5
 copy-requires : tie.Need-copy-requires
 copy-requires c κs = search needs
 
--- src/lib.rt:12:5
 add-result : tie.Need-add-result
 add-result c = search needs
 
--- src/lib.rt:7:1
 same-length : tie.Need-same-length
 same-length c = search needs
 
--- src/lib.rt:7:1
 returns : tie.Need-returns
 returns c =
     let copied = c .before .before in

@@ -1,9 +1,10 @@
-use native.Mathlib.Omega.{arith}
-use Rattle.print.proofs.Laws.{length-one, length-more, laid-one, laid-behind}
+-- The measure is the number itself, and its quotient by ten is less. Assumes nothing.
 use Prim.Native.Nat.{ℕ, _<_}
+use native.Mathlib.Omega.{arith}
 use borrow.Author.Needs.{needs}
 use borrow.Fn.Kinds.{In}
 use borrow.Fn.PlainCycle.{Measures, is, falls, and}
+use Rattle.print.proofs.Laws.{length-one, length-more, laid-one, laid-behind}
 use Rattle.print.proofs.decimal.Reads as decimal
 use Rattle.print.proofs.decimal.Kinds as decimal-kinds
 use Rattle.print.proofs.+decimal.Lts-decimal as decimal-lts
