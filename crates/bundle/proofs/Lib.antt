@@ -7,3 +7,4 @@ pub mod Entries
 pub mod Made
 pub mod Writes
 pub mod Theorems
+pub mod Examples

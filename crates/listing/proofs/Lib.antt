@@ -1,2 +1,3 @@
 -- The laws of the list's lines.
 pub mod Laws
+pub mod Examples

@@ -1,2 +1,3 @@
--- The laws of decimal digits.
+-- The laws of decimal digits, and what is promised of them.
 pub mod Laws
+pub mod Theorems
