@@ -74,6 +74,10 @@ laid-front b c n xs l = l .stand ∙ ap₂ (λ (x : List ℕ) (k : ℕ). x ++ dr
 pub laid-as : (b c : List ℕ) (at n : ℕ) (xs ys : List ℕ) → xs ≡ ys → Laid b c at n xs → Laid b c at n ys
 laid-as b c at n xs ys e l = subst (λ (x : List ℕ). Laid b c at n x) e l
 
+-- what is laid determines buffer and place
+pub one-laid : (b c d : List ℕ) (at m n : ℕ) (xs : List ℕ) → Laid b c at m xs → Laid b d at n xs → (c ≡ d) × (m ≡ n)
+one-laid b c d at m n xs one two = (one .stand ∙ sym (two .stand), one .behind ∙ sym (two .behind))
+
 -- pieces that are laid in turns: what is still owed, laid behind what stands, gives what all of it gives
 pub record Owed (buffer now : List ℕ) (at next : ℕ) (all rest : List ℕ) : Type 0 where
   pub stand : placed now next rest ≡ placed buffer at all

@@ -3,7 +3,7 @@ use Prim.Native.Nat.{ℕ, _≤_}
 use mathlib.Core.Bool.{Bool, true, false, not, _&&_, _||_, true≢false, false≢true}
 use mathlib.Core.Path.{_≡_, refl, sym, ap, _∙_}
 use lib.Dec.{eqb, leb}
-use borrow.Author.Tests.{eqb-true, eq-eqb, leb-true, le-leb}
+use borrow.Author.Tests.{eqb-true, eq-eqb, leb-true, le-leb, not-true, not-false}
 
 pub record Tells (t : Bool) (A : Type 0) : Type 0 where
   pub yes : t ≡ true → A
@@ -42,3 +42,10 @@ told-not r t v p q = ap not (sym p) ∙ q
 pub neither : (s t : Bool) → (s || t) ≡ false → (s ≡ false) × (t ≡ false)
 neither true t h = absurd (true≢false h)
 neither false t h = (refl, h)
+
+-- so where the test is asked for the other way: `if !asked`, and behind it
+pub was-false : {r t : Bool} → r ≡ t → not r ≡ true → t ≡ false
+was-false p q = sym p ∙ not-true _ q
+
+pub was-true : {r t : Bool} → r ≡ t → not r ≡ false → t ≡ true
+was-true p q = sym p ∙ not-false _ q

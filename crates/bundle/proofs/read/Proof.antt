@@ -1,7 +1,7 @@
 -- The three tests of the head, then the entries. Assumes nothing.
 use mathlib.Core.Path.{sym, _∙_}
 use native.Mathlib.Omega.{arith}
-use borrow.Author.Tests.{not-true, not-false}
+use Rattle.pieces.proofs.Tests.{was-true, was-false}
 use borrow.Author.Needs.{needs}
 use Rattle.bundle.proofs.Walk.{at-short, at-count, at-table, at-entries}
 use Rattle.bundle.proofs.read.Statement.{statement}
@@ -23,7 +23,7 @@ returns-2 : tie.Need-returns-2
 returns-2 c =
     let n = c .before in
     let w = n .before in
-    sym (at-count _ _ (w .before .if1 .left) (w .word .ensures .0) (sym (n .can-count .ensures) ∙ not-true _ (c .if2 .taken)))
+    sym (at-count _ _ (w .before .if1 .left) (w .word .ensures .0) (was-false (n .can-count .ensures) (c .if2 .taken)))
 
 head-requires : tie.Need-head-requires
 head-requires c κs = search needs
@@ -33,7 +33,7 @@ returns-3 c =
     let n = c .before .before .before in
     let w = n .before in
     sym (at-table _ _ (w .before .if1 .left) (w .word .ensures .0)
-    (sym (n .can-count .ensures) ∙ not-false _ (c .before .before .if2 .left))
+    (was-true (n .can-count .ensures) (c .before .before .if2 .left))
     (omega (arith, c .if3 .taken, c .before .head .ensures)))
 
 read-entries-requires : tie.Need-read-entries-requires
@@ -46,7 +46,7 @@ returns-4 c =
     let w = n .before in
     c .read-entries .ensures
     ∙ sym (at-entries _ _ (w .before .if1 .left) (w .word .ensures .0)
-    (sym (n .can-count .ensures) ∙ not-false _ (h .before .if2 .left))
+    (was-true (n .can-count .ensures) (h .before .if2 .left))
     (omega (arith, c .before .if3 .left, h .head .ensures)))
 
 pub read-spec : {M : Type 1} → statement M

@@ -34,14 +34,17 @@ returns : tie.Need-returns Inv-loop μ-loop
 returns c =
     let e = c .before .before in
     let w = e .before .before in
-    sym (at-offset _ _ _ (w .before .before .before .args .count - (w .loop .k + 1)) _ _ _ (omega arith) (e .entry-at .ensures) (c .if1 .taken)) ∙ w .loop .inv .1
+    let left = w .before .before .before .args .count - (w .loop .k + 1) in
+    sym (at-offset _ _ _ left _ _ _ (omega arith) (e .entry-at .ensures) (c .if1 .taken)) ∙ w .loop .inv .1
 
 returns-2 : tie.Need-returns-2 Inv-loop μ-loop
 returns-2 c =
     let one = c .before .before in
     let e = one .before .before in
     let w = e .before .before in
-    sym (at-empty _ _ _ (w .before .before .before .args .count - (w .loop .k + 1)) _ _ _ (omega arith) (e .entry-at .ensures) (one .if1 .left) (c .if2 .taken)) ∙ w .loop .inv .1
+    let left = w .before .before .before .args .count - (w .loop .k + 1) in
+    sym (at-empty _ _ _ left _ _ _ (omega arith) (e .entry-at .ensures) (one .if1 .left) (c .if2 .taken))
+    ∙ w .loop .inv .1
 
 end-requires : tie.Need-end-requires Inv-loop μ-loop
 end-requires c κs = tt
@@ -52,7 +55,9 @@ returns-3 c =
     let one = two .before .before in
     let e = one .before .before in
     let w = e .before .before in
-    sym (at-past _ _ _ (w .before .before .before .args .count - (w .loop .k + 1)) _ _ _ (omega arith) (e .entry-at .ensures) (one .if1 .left) (two .if2 .left) _ (c .before .end .ensures) (c .if3 .taken))
+    let left = w .before .before .before .args .count - (w .loop .k + 1) in
+    sym (at-past _ _ _ left _ _ _ (omega arith) (e .entry-at .ensures) (one .if1 .left) (two .if2 .left) _
+    (c .before .end .ensures) (c .if3 .taken))
     ∙ w .loop .inv .1
 
 add-k : tie.Need-add-k Inv-loop μ-loop
@@ -66,9 +71,12 @@ loop-again c =
     let two = c .before .before in
     let one = two .before .before in
     let e = one .before .before in
-    let w = e .before .before in (
+    let w = e .before .before in
+    let left = w .before .before .before .args .count - (w .loop .k + 1) in (
       omega arith,
-      sym (passed _ _ _ (w .before .before .before .args .count - (w .loop .k + 1)) _ _ _ (omega arith) (e .entry-at .ensures) (one .if1 .left) (two .if2 .left) _ (c .before .end .ensures) (c .if3 .left))
+      sym
+          (passed _ _ _ left _ _ _ (omega arith) (e .entry-at .ensures) (one .if1 .left) (two .if2 .left) _
+          (c .before .end .ensures) (c .if3 .left))
           ∙ w .loop .inv .1,
     )
 
