@@ -4,6 +4,7 @@ use std::ffi::OsStr;
 use std::fs;
 use std::path::{Path, PathBuf};
 use std::process::{Command, Output};
+use std::sync::atomic::{AtomicUsize, Ordering};
 
 pub const TOOL: &str = env!("CARGO_BIN_EXE_mullirim");
 
@@ -28,8 +29,11 @@ impl Said {
 }
 
 impl Folder {
+    /// Tests run side by side, and two may choose one name.
     pub fn new(name: &str) -> Folder {
-        let name = format!("mullirim-test-{name}-{}", std::process::id());
+        static MADE: AtomicUsize = AtomicUsize::new(0);
+        let number = MADE.fetch_add(1, Ordering::Relaxed);
+        let name = format!("mullirim-test-{name}-{}-{number}", std::process::id());
         let path = std::env::temp_dir().join(name);
         fs::create_dir_all(&path).unwrap();
         Folder(path)
