@@ -13,6 +13,11 @@ const MOST_BYTES: usize = MOST_BLOCKS * BLOCK_BYTES;
 /// No flash is longer with all that may be wrapped around it.
 const MOST_WRAPPED: usize = MOST_BYTES + wrapping::MOST_BYTES;
 
+/// The most bytes of a DFU file or a bundle that is read or made here, in the
+/// unit of the message about it.
+const MOST_MIB: usize = 64;
+pub const MOST_FILE_BYTES: usize = MOST_MIB << 20;
+
 /// The bytes for an application, and what stood around them in their file.
 #[derive(Debug, PartialEq)]
 pub struct Image {
@@ -45,12 +50,25 @@ pub fn read_image(wanted: Wanted, first: u16, room: usize) -> Result<Image, Stri
 }
 
 /// At most so many bytes of a file, so that one without an end is not awaited.
-pub fn read_up_to(path: &Path, most: usize) -> Result<Vec<u8>, String> {
+fn read_up_to(path: &Path, most: usize) -> Result<Vec<u8>, String> {
     let mut bytes = Vec::new();
     File::open(path)
         .and_then(|file| file.take(most as u64).read_to_end(&mut bytes))
         .map_err(|error| format!("can't read {}: {error}", shown(path)))?;
     Ok(bytes)
+}
+
+/// A file of at most so many bytes, or what is said of a longer one, which
+/// would be too long a thing of this kind; so that one without an end is refused
+/// and not awaited.
+pub fn at_most(path: &Path, most: usize, long: &str, kind: &str) -> Result<Vec<u8>, String> {
+    match read_up_to(path, most + 1)? {
+        bytes if bytes.len() <= most => Ok(bytes),
+        _ => Err(format!(
+            "{}: {long} {MOST_MIB} MiB, and a longer {kind} is not taken",
+            shown(path)
+        )),
+    }
 }
 
 /// Whole blocks are a flash, whatever they begin with or end in. What is around
@@ -280,6 +298,21 @@ mod tests {
         assert!(image_of(&file, 1, 1_024).unwrap_err().contains("the sum"));
         file.insert(0, 0);
         assert_eq!(image_of(&file, 1, 1_024), Err(why.to_string()));
+    }
+
+    #[test]
+    fn the_most_is_taken_and_a_byte_more_is_not() {
+        let tried = |most| {
+            laid("most", &[7; 100], |path| {
+                let why = format!("{}: ", path.display());
+                let tried = at_most(path, most, "it has more than", "DFU file");
+                tried.map_err(|message| message.replace(&why, ""))
+            })
+        };
+        let why = "it has more than 64 MiB, and a longer DFU file is not taken";
+        assert_eq!(tried(99), Err(why.to_string()));
+        assert_eq!(tried(100), Ok(vec![7; 100]));
+        assert_eq!(tried(101), Ok(vec![7; 100]));
     }
 
     #[test]

@@ -1,7 +1,10 @@
-//! Whether two names lead to one file.
+//! Whether two names lead to one file, and where a name leads.
 
 use std::os::unix::fs::MetadataExt;
 use std::path::{absolute, Path, PathBuf};
+
+/// A name that Linux has for it.
+const STANDARD_OUTPUT: &str = "/dev/stdout";
 
 /// What tells one file from another.
 #[derive(PartialEq)]
@@ -22,6 +25,13 @@ pub fn same(one: &Path, other: &Path) -> bool {
 /// A file would come to stand where such a link points, unseen here.
 pub fn leads_nowhere(path: &Path) -> bool {
     path.is_symlink() && !path.exists()
+}
+
+/// Whether what is said on standard output could land among the bytes that are
+/// written to this place, or get lost with a file that stood there.
+pub fn would_mix(out: &Path) -> bool {
+    let device = out.metadata().is_ok_and(|found| !found.is_file());
+    device || same(out, Path::new(STANDARD_OUTPUT))
 }
 
 /// Nothing where no file can be, which using it will find out.

@@ -34,6 +34,15 @@ impl<W: Write> Screen<W> {
         self.put(&format!("{text}\n"));
     }
 
+    /// A line that goes to standard error where standard output takes bytes that
+    /// are written. These are written by then, so that a line less is no failure.
+    pub fn line_aside(&mut self, aside: bool, text: &str) {
+        match aside {
+            true => drop(writeln!(io::stderr(), "{text}")),
+            false => self.line(text),
+        }
+    }
+
     /// The first line of a step.
     pub fn step(&mut self, number: u8, name: &str, text: &str) {
         self.line(&format!("{number} {name:<11}{text}"));
@@ -110,7 +119,7 @@ fn numbers(done: usize, all: usize) -> String {
 }
 
 /// A number with a comma before every three digits.
-pub fn grouped(number: usize) -> String {
+pub fn grouped(number: impl ToString) -> String {
     let digits = number.to_string();
     let mut text = String::new();
     for (i, digit) in digits.chars().enumerate() {

@@ -7,7 +7,7 @@ mod words;
 pub use said::{for_whom, why};
 
 use crate::ending::ending;
-use crate::files::read_up_to;
+use crate::files::{at_most, MOST_FILE_BYTES};
 use crate::names::shown;
 use crate::place;
 use crate::screen::Screen;
@@ -15,17 +15,9 @@ use crate::store;
 use crate::End;
 use mullirim_files::suffix::{read, write, Refusal, SIZE};
 use std::ffi::OsString;
-use std::io::{self, Write};
+use std::io::Write;
 use std::path::Path;
 use words::{Add, Wish};
-
-/// The most bytes of a file that is read or made here, in the unit of the
-/// message about it.
-const MOST_MIB: usize = 64;
-const MOST: usize = MOST_MIB << 20;
-
-/// A name that Linux has for it.
-const STANDARD_OUTPUT: &str = "/dev/stdout";
 
 pub fn run<W: Write>(words: &[OsString], screen: &mut Screen<W>) -> Result<(), End> {
     let went = match words::parse(words).map_err(End::Usage)? {
@@ -65,27 +57,16 @@ fn check<W: Write>(path: &Path, screen: &mut Screen<W>) -> Result<(), String> {
 
 fn add<W: Write>(wanted: &Add, screen: &mut Screen<W>) -> Result<(), String> {
     let long = "with its suffix the file has more than";
-    let file = at_most(&wanted.file, MOST - SIZE, long)?;
+    let file = at_most(&wanted.file, MOST_FILE_BYTES - SIZE, long, "DFU file")?;
     let mut made = vec![0; file.len() + SIZE];
     let count = write(&file, wanted.parts, &mut made).expect("there is room for both");
     // Asked before another file takes the name.
-    let aside = would_mix(&wanted.out);
+    let aside = place::would_mix(&wanted.out);
     store::write(&wanted.out, &made[..count])?;
     let mut lines = vec![said::added(&wanted.file, &wanted.out, wanted.parts, count)];
     lines.extend(said::second(&wanted.file, ending(&file)));
-    match aside {
-        // The file is written, so that a message less is no failure.
-        true => drop(writeln!(io::stderr(), "{}", lines.join("\n"))),
-        false => screen.line(&lines.join("\n")),
-    }
+    screen.line_aside(aside, &lines.join("\n"));
     Ok(())
-}
-
-/// Whether what is said on standard output could land among the bytes that are
-/// written to this place, or get lost with a file that stood there.
-fn would_mix(out: &Path) -> bool {
-    let device = out.metadata().is_ok_and(|found| !found.is_file());
-    device || place::same(out, Path::new(STANDARD_OUTPUT))
 }
 
 fn refused(path: &Path, refusal: Refusal) -> String {
@@ -93,36 +74,5 @@ fn refused(path: &Path, refusal: Refusal) -> String {
 }
 
 fn whole(path: &Path) -> Result<Vec<u8>, String> {
-    at_most(path, MOST, "the file has more than")
-}
-
-/// A file of at most so many bytes, or what is said of a longer one; so that
-/// one without an end is refused and not awaited.
-fn at_most(path: &Path, most: usize, long: &str) -> Result<Vec<u8>, String> {
-    match read_up_to(path, most + 1)? {
-        bytes if bytes.len() <= most => Ok(bytes),
-        _ => Err(format!(
-            "{}: {long} {MOST_MIB} MiB, and a longer DFU file is not taken",
-            shown(path)
-        )),
-    }
-}
-
-#[cfg(test)]
-mod tests {
-    use super::*;
-
-    #[test]
-    fn the_most_is_taken_and_a_byte_more_is_not() {
-        let name = format!("mullirim-most-{}", std::process::id());
-        let path = std::env::temp_dir().join(name);
-        std::fs::write(&path, [7; 100]).unwrap();
-        let tried = [99, 100, 101].map(|most| at_most(&path, most, "it has more than"));
-        std::fs::remove_file(&path).unwrap();
-        let path = path.display();
-        let why = format!("{path}: it has more than 64 MiB, and a longer DFU file is not taken");
-        assert_eq!(tried[0], Err(why));
-        assert_eq!(tried[1], Ok(vec![7; 100]));
-        assert_eq!(tried[2], Ok(vec![7; 100]));
-    }
+    at_most(path, MOST_FILE_BYTES, "the file has more than", "DFU file")
 }
