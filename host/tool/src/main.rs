@@ -1,6 +1,7 @@
 //! mullirim, the technician's tool. What it does to a flash, and the sums that
-//! it tells of one, go through the proved calls; so do the suffixes of DFU files.
+//! it tells of one, go through the proved calls; so do DFU files and site bundles.
 
+mod bundle;
 mod ending;
 mod files;
 mod names;
@@ -32,6 +33,9 @@ mullirim: the technician's tool for boards that run the loader Mullirim
   mullirim suffix show FILE   the suffix of a DFU file; with check or add in
                               place of show, whether the file is whole, or a
                               file with a suffix behind it
+  mullirim bundle list FILE   the images of a site bundle, with their sums;
+                              with pack or unpack in place of list, a bundle
+                              of images, or the images of a bundle
 
   With --help behind it, each of them shows its flags.
 
@@ -53,6 +57,7 @@ enum Command {
     Visit,
     Sums,
     Suffix,
+    Bundle,
 }
 
 impl Command {
@@ -63,6 +68,7 @@ impl Command {
             Command::Visit => "mullirim visit",
             Command::Sums => "mullirim sums",
             Command::Suffix => "mullirim suffix",
+            Command::Bundle => "mullirim bundle",
         }
     }
 }
@@ -91,6 +97,7 @@ fn run(words: &[OsString], out: impl Write, columns: Option<usize>) -> (Command,
         Some("visit") => (Command::Visit, visit::run(rest, &mut screen)),
         Some("sums") => (Command::Sums, sums::run(rest, &mut screen)),
         Some("suffix") => (Command::Suffix, suffix::run(rest, &mut screen)),
+        Some("bundle") => (Command::Bundle, bundle::run(rest, &mut screen)),
         _ => (Command::Overview, overview(words, &mut screen)),
     };
     // The screen is closed also where the command failed, so that the message
@@ -108,7 +115,7 @@ fn overview<W: Write>(words: &[OsString], screen: &mut Screen<W>) -> Result<(), 
         return Ok(());
     }
     Err(End::Usage(match words.first() {
-        None => "say what to do: visit, sums or suffix".to_string(),
+        None => "say what to do: visit, sums, suffix or bundle".to_string(),
         Some(word) => format!("no command is called {}", shown(word)),
     }))
 }

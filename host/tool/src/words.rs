@@ -31,8 +31,16 @@ pub fn value_of(value: Option<OsString>) -> Option<OsString> {
 }
 
 pub fn file(flag: &str, value: Option<OsString>) -> Result<PathBuf, String> {
+    named(flag, value, "file")
+}
+
+pub fn folder(flag: &str, value: Option<OsString>) -> Result<PathBuf, String> {
+    named(flag, value, "folder")
+}
+
+fn named(flag: &str, value: Option<OsString>, what: &str) -> Result<PathBuf, String> {
     match value_of(value) {
         Some(word) => Ok(PathBuf::from(word)),
-        None => Err(format!("{flag} needs the name of a file")),
+        None => Err(format!("{flag} needs the name of a {what}")),
     }
 }

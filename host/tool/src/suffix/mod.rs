@@ -4,7 +4,7 @@
 mod said;
 mod words;
 
-pub use said::{for_whom, why};
+pub use said::{for_whom, why, wrong};
 
 use crate::ending::ending;
 use crate::files::{at_most, MOST_FILE_BYTES};

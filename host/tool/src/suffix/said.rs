@@ -110,7 +110,7 @@ pub fn second(file: &Path, ending: Ending) -> Option<String> {
 }
 
 /// What is not right in a suffix that has its signature.
-fn wrong(refusal: Refusal) -> &'static str {
+pub fn wrong(refusal: Refusal) -> &'static str {
     match refusal {
         Refusal::Length => "whose length is not given as 16 bytes",
         Refusal::Version => "whose version of DFU is not 0x0100",

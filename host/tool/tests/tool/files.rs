@@ -9,7 +9,7 @@ use std::process::Stdio;
 
 /// Runs the tool with room for half a kilobyte or one in every file, as on a
 /// disk that is nearly full.
-fn on_a_full_disk(folder: &Folder, words: &[&str]) -> Said {
+pub fn on_a_full_disk(folder: &Folder, words: &[&str]) -> Said {
     let limited = "trap '' XFSZ; ulimit -f 1; exec \"$0\" \"$@\"";
     let mut command = folder.command("sh");
     command.args(["-c", limited, TOOL]).args(words);
@@ -102,6 +102,7 @@ fn output_that_cannot_be_written_ends_with_1() {
     let folder = Folder::new("output");
     folder.put("i", [7; 5]);
     folder.put("d", suffixed(&[7; 5], [1, 2, 3]));
+    folder.put("b", [1, 0, 10, 0, 0, 0, 1, 0, 0, 0, 7]);
     for (words, who) in [
         (&["--help"][..], "mullirim"),
         (&["visit"], "mullirim visit"),
@@ -112,6 +113,11 @@ fn output_that_cannot_be_written_ends_with_1() {
         (&["suffix", "show", "d"], "mullirim suffix"),
         (&["suffix", "show", "d", "--json"], "mullirim suffix"),
         (&["suffix", "check", "d"], "mullirim suffix"),
+        (&["bundle", "--help"], "mullirim bundle"),
+        (&["bundle", "list", "b"], "mullirim bundle"),
+        (&["bundle", "list", "b", "--json"], "mullirim bundle"),
+        (&["bundle", "pack", "new", "i"], "mullirim bundle"),
+        (&["bundle", "unpack", "b", "-o", "to"], "mullirim bundle"),
     ] {
         let full = OpenOptions::new().write(true).open("/dev/full").unwrap();
         let mut command = folder.command(TOOL);

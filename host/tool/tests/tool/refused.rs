@@ -15,7 +15,8 @@ fn wrong_use_ends_with_2() {
     let refused = |words: &[&str], message: &str| {
         folder.refused(words, 2, &format!("{message} {HOW}"));
     };
-    refused(&[], "mullirim: say what to do: visit, sums or suffix");
+    let what = "mullirim: say what to do: visit, sums, suffix or bundle";
+    refused(&[], what);
     refused(&["fly"], "mullirim: no command is called fly");
     refused(&["--json"], "mullirim: no command is called --json");
     refused(&["Sums", "f"], "mullirim: no command is called Sums");

@@ -7,7 +7,7 @@ fn help_is_shown_everywhere() {
     let folder = Folder::new("help");
     let all = folder.done(&["--help"]);
     assert!(all.starts_with("mullirim: the technician's tool"));
-    for command in ["visit", "sums", "suffix"] {
+    for command in ["visit", "sums", "suffix", "bundle"] {
         assert!(all.contains(&format!("  mullirim {command} ")));
     }
     assert_eq!(folder.done(&["fly", "--help"]), all);
@@ -37,7 +37,14 @@ fn help_is_shown_everywhere() {
     let more = ["-o", "--json", "--help", "64 MiB", "is written over"];
     let mut words = words.iter().chain(&more);
     assert!(words.all(|word| suffix.contains(word)));
-    for text in [all, visit, sums, suffix] {
+    let bundle = folder.done(&["bundle", "--help"]);
+    assert!(bundle.starts_with("mullirim bundle: all images for a village in one file"));
+    assert_eq!(folder.done(&["bundle", "unpack", "-o", "--help"]), bundle);
+    let words = ["list", "pack", "unpack", "-o", "--json", "--overwrite"];
+    let more = ["--help", "64 MiB", "1 to 32", "image-00.bin"];
+    let mut words = words.iter().chain(&more);
+    assert!(words.all(|word| bundle.contains(word)));
+    for text in [all, visit, sums, suffix, bundle] {
         assert!(text.lines().all(|line| line.len() < 80), "{text}");
         assert!(text.contains("Exit: 0 done"));
     }
