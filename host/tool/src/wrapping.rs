@@ -1,10 +1,12 @@
 //! What stands around an image in a file: a DFU suffix behind it, and before it
 //! the PROG header that would load it, as other tools and uploads write it. What
-//! can be recognised as either, and does not come off, is refused.
+//! can be recognised as either, and does not come off, is refused; so is a bundle,
+//! which holds images and is none.
 
 use crate::ending::{ending, Ending};
 use crate::screen::{counted, grouped};
 use crate::suffix::{for_whom, why};
+use mullirim_files::bundle;
 use mullirim_files::suffix::{Parts, SIZE};
 use mullirim_host::second::command;
 
@@ -77,8 +79,11 @@ impl Misfit {
 /// The image of a file for an application from block `first` on, and what was
 /// around it.
 pub fn taken_off(file: &[u8], first: u16) -> Result<(&[u8], Wrapping), String> {
+    // Before all else, since a bundle may end in the suffix of its last image.
+    no_bundle(file, "the file", way_out(None))?;
     let (inside, suffix) = without_suffix(file)?;
     let (image, header) = without_header(inside, first, way_out(suffix))?;
+    no_bundle(image, "the image inside", way_out(suffix))?;
     let wrapping = Wrapping {
         suffix,
         header,
@@ -99,6 +104,9 @@ pub fn left_on() -> Wrapping {
 /// What may be the reason why a file's length is no flash's: a flash file holds
 /// what stands in flash, and nothing is taken off it.
 pub fn none_around(flash: &[u8]) -> Result<(), String> {
+    if let Some(bundle) = bundle_told(flash) {
+        return Err(format!("the file {bundle}"));
+    }
     let found = match ending(flash) {
         Ending::Whole(..) | Ending::Damaged(_) => {
             "ends in a DFU suffix, whose 16 bytes would be taken for firmware"
@@ -118,6 +126,22 @@ fn way_out(suffix: Option<Parts>) -> &'static str {
     match suffix {
         None => "--plain takes the file as it stands",
         Some(_) => "--plain takes the file as it stands, its suffix too",
+    }
+}
+
+/// What is said of a bundle. It has no signature, but its numbers have to fit
+/// each other and its length to the byte, as no firmware's do by chance.
+fn bundle_told(bytes: &[u8]) -> Option<String> {
+    let images = counted(bundle::read(bytes).ok()?, "image");
+    Some(format!(
+        "is a bundle of {images}; unpack it first (mullirim bundle unpack FILE -o DIR)"
+    ))
+}
+
+fn no_bundle(bytes: &[u8], what: &str, way_out: &str) -> Result<(), String> {
+    match bundle_told(bytes) {
+        Some(bundle) => Err(format!("{what} {bundle}; {way_out}")),
+        None => Ok(()),
     }
 }
 
@@ -541,6 +565,39 @@ mod tests {
         // The other way round the suffix is inside, and the header before it.
         let inside = headed(16, 116, &suffixed(&FIRMWARE));
         assert_eq!(refused(&inside), why(Refusal::Sum));
+    }
+
+    /// The images `abc` and a DFU file.
+    fn bundle() -> Vec<u8> {
+        let (head, last) = ([2, 0, 18, 0, 0, 0, 3, 0, 0, 0], suffixed(&FIRMWARE));
+        [&head[..], &[21, 0, 0, 0, 116, 0, 0, 0], b"abc", &last].concat()
+    }
+
+    const UNPACK: &str = "unpack it first (mullirim bundle unpack FILE -o DIR)";
+
+    #[test]
+    fn a_bundle_is_no_image() {
+        let bundle = bundle();
+        let why = format!("the file is a bundle of 2 images; {UNPACK}; {PLAIN}");
+        assert_eq!(refused(&bundle), why);
+        let one = [&[1, 0, 10, 0, 0, 0, 100, 0, 0, 0], &FIRMWARE[..]].concat();
+        let why = format!("the file is a bundle of 1 image; {UNPACK}; {PLAIN}");
+        assert_eq!(refused(&one), why);
+        let inside = format!("the image inside is a bundle of 1 image; {UNPACK}");
+        assert_eq!(refused(&suffixed(&one)), format!("{inside}; {OUTER_TOO}"));
+        let headed = headed(16, one.len() as u32, &one);
+        assert_eq!(refused(&headed), format!("{inside}; {PLAIN}"));
+        // What no reader takes for one is none.
+        let more = [&one[..], &[0]].concat();
+        for file in [&one[1..], &one[..109], &more] {
+            assert_eq!(taken(file).0, file);
+        }
+    }
+
+    #[test]
+    fn a_bundle_is_no_flash() {
+        let why = format!("the file is a bundle of 2 images; {UNPACK}");
+        assert_eq!(none_around(&bundle()), Err(why));
     }
 
     fn flash_refused(flash: &[u8], what: &str) {

@@ -665,3 +665,47 @@ fn json_tells_what_was_taken_off_at_its_end() {
         assert_eq!(*value.at("new").at("header_block"), header);
     }
 }
+
+/// The images `abc` and, at the bundle's end, a DFU file.
+fn bundle() -> Vec<u8> {
+    let last = suffixed(b"firmware", FOR);
+    let head = [2, 0, 18, 0, 0, 0, 3, 0, 0, 0, 21, 0, 0, 0, 24, 0, 0, 0];
+    [&head[..], b"abc", &last].concat()
+}
+
+#[test]
+fn a_bundle_is_not_programmed_for_an_image() {
+    let folder = Folder::new("bundle");
+    let unpack = "unpack it first (mullirim bundle unpack FILE -o DIR)";
+    let why = format!("the file is a bundle of 2 images; {unpack}");
+    refused(&folder, &bundle(), &format!("{why}; {PLAIN}"));
+    let inside = format!("the image inside is a bundle of 1 image; {unpack}");
+    let one = [&[1, 0, 10, 0, 0, 0, 3, 0, 0, 0][..], b"abc"].concat();
+    let around = suffixed(&one, FOR);
+    refused(&folder, &around, &format!("{inside}; {OUTER_TOO}"));
+    refused(&folder, &headed(3, &one), &format!("{inside}; {PLAIN}"));
+    // In place of a flash it is told too.
+    folder.put("f", bundle());
+    for (words, who) in [
+        (&["sums", "f"][..], "mullirim sums"),
+        (&["visit", "--flash", "f"], "mullirim visit"),
+    ] {
+        folder.refused(words, 1, &format!("{who}: f: {why}"));
+    }
+    // A byte more, and nobody can tell what it is.
+    let longer = [&one[..], &[0]].concat();
+    visited(&folder, &longer, &longer, &[UNVOUCHED]);
+}
+
+#[test]
+fn with_plain_a_bundle_is_taken_as_it_stands() {
+    let folder = Folder::new("plain-bundle");
+    let flash = site(&folder);
+    folder.put("i", bundle());
+    let said = folder.run(&[&VISIT[..], &["--plain"]].concat());
+    let told = [
+        "taken as it stands (--plain), whatever is around it",
+        "nothing vouches for these bytes",
+    ];
+    landed(&folder, &flash, &said, &bundle(), &told);
+}
