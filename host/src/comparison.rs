@@ -1,9 +1,14 @@
-//! What the programs that compare share: how their words are read, and how a run
-//! without a difference ends.
+//! What the programs that compare share: how their words are read, how two sides
+//! are held to each other, and how a run without a difference ends.
+
+pub mod files;
 
 use std::borrow::Borrow;
-use std::fmt::Display;
+use std::fmt::{Debug, Display};
 use std::process::ExitCode;
+
+/// Nothing, or what one side left and what the other awaits.
+pub type Same = Result<(), String>;
 
 /// What a flag sets.
 pub enum Place<'a> {
@@ -16,7 +21,7 @@ pub fn begin<A>(
     program: &str,
     help: &str,
     asked_in: fn(&[String]) -> Result<A, String>,
-    run: fn(&A) -> ExitCode,
+    run: impl FnOnce(&A) -> ExitCode,
 ) -> ExitCode {
     let words: Vec<String> = std::env::args().skip(1).collect();
     if words.iter().any(|word| word == "--help") {
@@ -47,6 +52,26 @@ pub fn read(words: &[String], mut flags: Vec<(&str, Place)>) -> Result<(), Strin
         }
     }
     Ok(())
+}
+
+pub fn same<T: PartialEq + Debug>(what: &str, left: T, awaited: T) -> Same {
+    match left == awaited {
+        true => Ok(()),
+        false => Err(format!("{what} is {left:?}, awaited {awaited:?}")),
+    }
+}
+
+/// The same for bytes, which are told by their first difference.
+pub fn same_bytes(what: &str, left: &[u8], awaited: &[u8]) -> Same {
+    if left == awaited {
+        return Ok(());
+    }
+    same(&format!("length of the {what}"), left.len(), awaited.len())?;
+    let place = (0..left.len()).find(|place| left[*place] != awaited[*place]);
+    place.map_or(Ok(()), |place| {
+        let what = format!("byte {place} of the {what}");
+        same(&what, left[place], awaited[place])
+    })
 }
 
 /// A run that never met some row of the paper has compared too little.
@@ -92,6 +117,15 @@ mod tests {
             let unknown = Err(format!("{word} is not known"));
             assert_eq!(reading(&["--on", word]), unknown);
         }
+    }
+
+    #[test]
+    fn a_difference_is_told_by_its_place() {
+        assert_eq!(same_bytes("flash", &[1, 2], &[1, 2]), Ok(()));
+        let second = "byte 1 of the flash is 2, awaited 3".to_string();
+        assert_eq!(same_bytes("flash", &[1, 2, 4], &[1, 3, 5]), Err(second));
+        let longer = "length of the flash is 2, awaited 1".to_string();
+        assert_eq!(same_bytes("flash", &[1, 2], &[1]), Err(longer));
     }
 
     #[test]

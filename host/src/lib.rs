@@ -7,6 +7,7 @@ pub mod dice;
 pub mod histories;
 pub mod layout;
 pub mod requests;
+pub mod rows;
 pub mod second;
 pub mod sessions;
 pub mod suffix;

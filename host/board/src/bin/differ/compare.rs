@@ -3,11 +3,9 @@
 use crate::seen::Seen;
 use crate::tally::Tally;
 use mullirim_board::{request, start, Session};
+use mullirim_host::comparison::{same, same_bytes, Same};
 use mullirim_host::histories::{Call, History, Start, REPLY_ROOM};
 use mullirim_host::second;
-
-/// What the proved loader left and what the second one awaits.
-type Same = Result<(), String>;
 
 pub struct Pair {
     history: History,
@@ -68,28 +66,8 @@ impl Pair {
     }
 }
 
-fn same<T: PartialEq + std::fmt::Debug>(what: &str, left: &T, awaited: &T) -> Same {
-    match left == awaited {
-        true => Ok(()),
-        false => Err(format!("{what} is {left:?}, awaited {awaited:?}")),
-    }
-}
-
 fn same_session(left: &Session, awaited: &second::Session) -> Same {
     same("session", &second::Session::from(left), awaited)
-}
-
-fn same_bytes(what: &str, left: &[u8], awaited: &[u8]) -> Same {
-    if left == awaited {
-        return Ok(());
-    }
-    let place = (0..left.len()).find(|place| left[*place] != awaited[*place]);
-    let place = place.expect("two lengths that are equal");
-    same(
-        &format!("byte {place} of the {what}"),
-        &left[place],
-        &awaited[place],
-    )
 }
 
 fn described(call: &Call) -> String {

@@ -1,21 +1,21 @@
 //! The proved calls and the second ones side by side over one case.
 
-use crate::tally::Tally;
 use mullirim_files::suffix::{self, Parts, Refusal, SIZE};
+use mullirim_host::comparison::{files, same, same_bytes, Same};
 use mullirim_host::layout::{SuffixFound, Written};
 use mullirim_host::suffix as second;
 use mullirim_host::suffix::cases::Case;
 use mullirim_host::suffix::seen::Seen;
-use std::fmt::Debug;
 
-/// What the proved calls left and what is awaited.
-type Same = Result<(), String>;
+pub type Tally = files::Tally<dyn Fn(&Seen) -> bool>;
 
 pub fn both(case: &Case, tally: &mut Tally) -> Same {
     let agreed = read(case, tally).and_then(|read| Ok((read, write(case, tally)?)));
     let (read, written) =
         agreed.map_err(|difference| format!("{difference}\n{}", described(case)))?;
-    tally.agreed(&Seen::new(case, read, written));
+    let seen = Seen::new(case, read, written);
+    tally.agreed(seen.accepted(), seen.was_written());
+    tally.rows.see(&seen);
     Ok(())
 }
 
@@ -66,21 +66,6 @@ fn read_again(case: &Case, written: &[u8], tally: &mut Tally) -> Same {
     tally.calls += 1;
     let awaited = Ok((case.parts, written.len() - SIZE));
     same("reading what was written", suffix::read(written), awaited)
-}
-
-fn same<T: PartialEq + Debug>(what: &str, left: T, awaited: T) -> Same {
-    match left == awaited {
-        true => Ok(()),
-        false => Err(format!("{what} is {left:?}, awaited {awaited:?}")),
-    }
-}
-
-fn same_bytes(what: &str, left: &[u8], awaited: &[u8]) -> Same {
-    let place = (0..left.len()).find(|place| left[*place] != awaited[*place]);
-    place.map_or(Ok(()), |place| {
-        let what = format!("byte {place} of the {what}");
-        same(&what, left[place], awaited[place])
-    })
 }
 
 fn described(case: &Case) -> String {
