@@ -29,4 +29,12 @@ impl Dice {
     pub fn bytes(&mut self, length: u32) -> Vec<u8> {
         (0..length).map(|_| self.below(256) as u8).collect()
     }
+
+    /// The same in less time: a turn gives eight of them.
+    pub fn many(&mut self, length: u32) -> Vec<u8> {
+        let turns = 0..length.div_ceil(8);
+        let mut bytes: Vec<u8> = turns.flat_map(|_| self.turn().to_le_bytes()).collect();
+        bytes.truncate(length as usize);
+        bytes
+    }
 }
