@@ -1,12 +1,13 @@
 //! Prints the structs of `layout.rs` and the numbers of the papers as C's test
 //! reads them (`tests/layout.c`), a line for each.
 
+use mullirim_host::bundle::{self, unwritten};
 use mullirim_host::layout::{Struct, STRUCTS};
 use mullirim_host::second::{answer, BLOCK, MOST_BLOCKS, TRANSFER};
 use mullirim_host::suffix::{self, refusal};
 
 fn main() {
-    for (name, number) in [
+    print_numbers(&[
         ("MULLIRIM_BLOCK", BLOCK as usize),
         ("MULLIRIM_MOST_BLOCKS", MOST_BLOCKS),
         ("MULLIRIM_REPLY_ROOM", TRANSFER),
@@ -15,6 +16,8 @@ fn main() {
         ("MULLIRIM_UNFIT", answer::UNFIT.into()),
         ("MULLIRIM_FAULTED", answer::FAULTED.into()),
         ("MULLIRIM_RESET_ASKED", answer::RESET_ASKED.into()),
+    ]);
+    print_numbers(&[
         ("MULLIRIM_SUFFIX_SIZE", suffix::SIZE),
         ("MULLIRIM_SUFFIX_ACCEPTED", 0),
         ("MULLIRIM_SUFFIX_SHORT", refusal::SHORT.into()),
@@ -23,10 +26,41 @@ fn main() {
         ("MULLIRIM_SUFFIX_VERSION", refusal::VERSION.into()),
         ("MULLIRIM_SUFFIX_SUM", refusal::SUM.into()),
         ("MULLIRIM_SUFFIX_NO_ROOM", suffix::NO_ROOM as usize),
-    ] {
+    ]);
+    print_bundle_numbers();
+    STRUCTS.iter().for_each(print);
+}
+
+fn print_bundle_numbers() {
+    print_numbers(&[
+        ("MULLIRIM_BUNDLE_MOST", bundle::MOST),
+        ("MULLIRIM_BUNDLE_HEAD(0)", bundle::head(0)),
+        ("MULLIRIM_BUNDLE_HEAD(31 + 1)", bundle::head(32)),
+    ]);
+    let refusals = [
+        ("ACCEPTED", 0),
+        ("SHORT", bundle::refusal::SHORT),
+        ("COUNT", bundle::refusal::COUNT),
+        ("TABLE", bundle::refusal::TABLE),
+        ("OFFSET", bundle::refusal::OFFSET),
+        ("EMPTY", bundle::refusal::EMPTY),
+        ("PAST", bundle::refusal::PAST),
+        ("LEFT_OVER", bundle::refusal::LEFT_OVER),
+        ("WRITTEN", 0),
+        ("WRONG_COUNT", unwritten::COUNT),
+        ("EMPTY_IMAGE", unwritten::EMPTY),
+        ("NO_ROOM", unwritten::NO_ROOM),
+        ("WRONG_LENGTHS", unwritten::LENGTHS),
+    ];
+    for (name, number) in refusals {
+        print_numbers(&[(&format!("MULLIRIM_BUNDLE_{name}"), number as usize)]);
+    }
+}
+
+fn print_numbers(numbers: &[(&str, usize)]) {
+    for (name, number) in numbers {
         println!("NUMBER({name}, {number});");
     }
-    STRUCTS.iter().for_each(print);
 }
 
 fn print(table: &Struct) {
