@@ -7,12 +7,12 @@ SOURCES := crates.txt $(shell find crates -name '*.rt' -o -name '*.antt')
 
 CHECKED = -std=c11 -g -O1 -Wall -Wextra -DCHECKED -fsanitize=address,undefined -fno-sanitize-recover=all -Iinclude
 
-.PHONY: test quick demo tool soak bench expected host layout library example differ suffixes faults replay checked said quoted stored
-.PHONY: names stock setup
+.PHONY: test quick demo tool soak bench inputs expected host layout library example differ suffixes bundles faults replay checked listed
+.PHONY: said quoted stored names stock setup
 
 # The gate: the second loader's own tests, the stored outputs against it, the calls for C and Rust, then every proof, every edit that
 # must fail and every program, from nothing. The last line is the prover's own count.
-test: names host expected layout example differ suffixes faults replay checked quoted stock
+test: names host expected layout example differ suffixes bundles faults replay checked listed quoted stock
 	rt ci
 
 # What a change needs while one is at it: the crates that changed since main was left (on main: since its last commit) with what they
@@ -30,13 +30,21 @@ quick:
 host: build/libboard.a
 	$(CARGO) test --quiet --release --offline --workspace --manifest-path host/Cargo.toml
 
-# What the programs are held to was computed by the second loader, and still is what it computes.
-expected:
+# The inputs that the program which lists bundles is tried with. What it must write for each is stored in tests/listed.
+inputs:
+	rm -rf build/listed
+	$(HOST) bundle_cases -- build/listed
+
+# What the programs are held to was computed by the second implementations, and still is what they compute.
+expected: inputs
 	$(HOST) vectors | cmp - crates/vectors/stdout
 	$(HOST) script -- session | cmp - crates/play/stdin
 	$(HOST) play < crates/play/stdin | cmp - crates/play/stdout
 	$(HOST) script -- desk | cmp - crates/desk/stdin
 	$(HOST) play < crates/desk/stdin | cmp - crates/desk/stdout
+	tools/listed $(HOST) bundle_list
+	cmp build/listed/thirty_two.in crates/bundle_list/stdin
+	cmp tests/listed/thirty_two.out crates/bundle_list/stdout
 
 # The C headers' structs lie as those in Rust; compiling is the test.
 layout:
@@ -69,6 +77,11 @@ soak: build/libboard.a
 suffixes: build/libboard.a
 	$(FILES) suffixes > build/suffixes.said || { cat build/suffixes.said; false; }
 	@cat build/suffixes.said
+
+# The same for bundles.
+bundles: build/libboard.a
+	$(FILES) bundles > build/bundles.said || { cat build/bundles.said; false; }
+	@cat build/bundles.said
 
 # The proved calls beside plain Rust and zlib. Figures are for docs/PERFORMANCE.md; nothing tests them.
 bench: build/libboard.a
@@ -103,6 +116,11 @@ checked: build/libboard.a
 	! build/checked/liar write 2> build/checked/liar.said
 	grep -q '^WRITE of size' build/checked/liar.said
 
+# The proved program that lists bundles, on every input.
+listed: inputs
+	rt check bundle_list
+	tools/listed tools/run target/bin/bundle_list
+
 # Stock dfu-util on the proved calls, by a stand-in for libusb, and the tool beside dfu-suffix. The gate goes on without where it is not
 # installed, and says so.
 test: STOCK = --or-skip
@@ -127,10 +145,10 @@ demo: tool
 	@build/mullirim visit $(ARGS)
 
 # What the visit and the comparisons say.
-said: tool differ suffixes faults replay checked
+said: tool differ suffixes bundles faults replay checked
 	build/mullirim visit > build/visit.said
 	grep . build/visit.said > build/demo.said
-	cat build/differ.said build/suffixes.said build/faults.said build/replay.said build/checked.said > build/test.said
+	cat build/differ.said build/suffixes.said build/bundles.said build/faults.said build/replay.said build/checked.said > build/test.said
 
 # docs/TRANSCRIPTS.md quotes it as it is (but for empty lines).
 quoted: said
@@ -138,14 +156,20 @@ quoted: said
 	! grep -n '@[A-Z]*@' README.md docs/*.md docs/landings/*.md
 	sed -n '/^`make test` prints/,/^## /s/^    //p' docs/TRANSCRIPTS.md | cmp - build/test.said
 
-# Writes anew what `expected` and `quoted` compare with: the programs' inputs and outputs, by the second loader, and the transcripts.
-stored: said
+# Writes anew what `expected` and `quoted` compare with: the programs' inputs and outputs, by the second implementations, and the
+# transcripts.
+stored: said inputs
 	$(HOST) vectors > build/stored && mv build/stored crates/vectors/stdout
 	$(HOST) script -- session > build/stored && mv build/stored crates/play/stdin
 	$(HOST) play < crates/play/stdin > build/stored && mv build/stored crates/play/stdout
 	$(HOST) script -- desk > build/stored && mv build/stored crates/desk/stdin
 	$(HOST) play < crates/desk/stdin > build/stored && mv build/stored crates/desk/stdout
+	rm -f tests/listed/*.out
+	for input in build/listed/*.in; do \
+	    $(HOST) bundle_list < $$input > tests/listed/$$(basename $$input .in).out || exit 1; done
+	cp build/listed/thirty_two.in crates/bundle_list/stdin
+	cp tests/listed/thirty_two.out crates/bundle_list/stdout
 	awk '/^`make (demo|test)` prints/ { print; print ""; file = /^`make demo/ ? "build/visit.said" : "build/test.said"; \
 	        while ((getline line < file) > 0) print line == "" ? "" : "    " line; print ""; skip = 1; next } \
 	    skip && /^(    |$$)/ { next } { skip = 0; print }' docs/TRANSCRIPTS.md > build/stored && mv build/stored docs/TRANSCRIPTS.md
-	@git --no-pager diff --stat -- crates docs/TRANSCRIPTS.md
+	@git --no-pager diff --stat -- crates tests/listed docs/TRANSCRIPTS.md
