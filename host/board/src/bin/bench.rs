@@ -1,6 +1,8 @@
 //! Times the proved calls beside plain Rust and, for the sums, beside zlib.
 //! Before anything is timed, both sides must have come to the same result.
 
+#[path = "bench/bundle.rs"]
+mod bundle;
 #[path = "bench/clock.rs"]
 mod clock;
 #[path = "bench/download.rs"]
@@ -49,6 +51,7 @@ fn main() -> ExitCode {
         refresh::compare,
         question::compare,
         suffix::compare,
+        bundle::compare,
     ];
     for compare in comparisons {
         match compare() {

@@ -2,6 +2,7 @@
 //! slices copied whole.
 
 use super::{APPLICATION, BLOCK};
+use mullirim_files::bundle::{head, Refusal, Unwritten, MOST};
 use mullirim_host::layout::Parts;
 
 static REMAINDERS: [u32; 256] = remainders();
@@ -107,10 +108,107 @@ pub fn write_suffix(file: &[u8], parts: Parts, buffer: &mut [u8]) -> Option<usiz
     Some(count)
 }
 
+/// The bytes of an entry of a bundle.
+const ENTRY: usize = 8;
+
+/// Offset and length, as an entry has them.
+fn entry(bytes: &[u8]) -> (u32, u32) {
+    let number = |four: &[u8]| u32::from_le_bytes(four.try_into().expect("four bytes"));
+    (number(&bytes[..4]), number(&bytes[4..ENTRY]))
+}
+
+/// How many images a bundle has.
+pub fn read_bundle(file: &[u8]) -> Result<usize, Refusal> {
+    let (count, behind) = file.split_first_chunk::<2>().ok_or(Refusal::Short)?;
+    let count = usize::from(u16::from_le_bytes(*count));
+    if !(1..=MOST).contains(&count) {
+        return Err(Refusal::Count);
+    }
+    let table = behind.get(..ENTRY * count).ok_or(Refusal::Table)?;
+    let size = file.len() as u64;
+    let mut end = head(count) as u64;
+    for (offset, length) in table.chunks_exact(ENTRY).map(entry) {
+        if u64::from(offset) != end {
+            return Err(Refusal::Offset);
+        }
+        if length == 0 {
+            return Err(Refusal::Empty);
+        }
+        end += u64::from(length);
+        if end > size {
+            return Err(Refusal::Past);
+        }
+    }
+    match end < size {
+        true => Err(Refusal::LeftOver),
+        false => Ok(count),
+    }
+}
+
+/// Image k of a bundle, the whole file judged first.
+pub fn image(file: &[u8], k: usize) -> &[u8] {
+    match read_bundle(file) {
+        Ok(count) if k < count => trusted_image(file, k),
+        _ => &[],
+    }
+}
+
+/// The same of a file that was read before and has such an image. What was
+/// read stays the caller's word: another file gives another part, or a panic.
+pub fn trusted_image(file: &[u8], k: usize) -> &[u8] {
+    let (offset, length) = entry(&file[head(k)..head(k + 1)]);
+    &file[offset as usize..][..length as usize]
+}
+
+/// Where the last of these images ends, if all numbers of its table have 32
+/// bits.
+fn end(lengths: &[u64]) -> Option<u64> {
+    let mut at = head(lengths.len()) as u64;
+    for length in lengths {
+        u32::try_from(at.max(*length)).ok()?;
+        at += length;
+    }
+    Some(at)
+}
+
+/// The bundle at the buffer's front.
+pub fn write_bundle(lengths: &[u64], images: &[u8], buffer: &mut [u8]) -> Result<usize, Unwritten> {
+    if !(1..=MOST).contains(&lengths.len()) {
+        return Err(Unwritten::Count);
+    }
+    if lengths.contains(&0) {
+        return Err(Unwritten::Empty);
+    }
+    if !end(lengths).is_some_and(|end| end <= buffer.len() as u64) {
+        return Err(Unwritten::NoRoom);
+    }
+    if lengths.iter().sum::<u64>() != images.len() as u64 {
+        return Err(Unwritten::Lengths);
+    }
+    let (front, behind) = buffer.split_at_mut(head(lengths.len()));
+    write_head(lengths, front);
+    behind[..images.len()].copy_from_slice(images);
+    Ok(front.len() + images.len())
+}
+
+/// Count and table, which fill the bytes before the images.
+fn write_head(lengths: &[u64], front: &mut [u8]) {
+    let mut offset = front.len() as u64;
+    let (count, table) = front.split_at_mut(2);
+    count.copy_from_slice(&(lengths.len() as u16).to_le_bytes());
+    for (entry, length) in table.chunks_exact_mut(ENTRY).zip(lengths) {
+        entry[..4].copy_from_slice(&(offset as u32).to_le_bytes());
+        entry[4..].copy_from_slice(&(*length as u32).to_le_bytes());
+        offset += length;
+    }
+}
+
 #[cfg(test)]
 mod tests {
     use super::*;
     use crate::{noise, FLASH};
+    use mullirim_files::bundle;
+    use mullirim_host::dice::Dice;
     use mullirim_host::second;
     use mullirim_host::suffix::{self, cases::Case};
 
@@ -146,6 +244,131 @@ mod tests {
             let second = suffix::write(file, *parts, &mut awaited[case.lent()]);
             assert_eq!((count, ours), (second, awaited));
         }
+    }
+
+    /// Two images, three bytes and one byte long.
+    const BUNDLE: &[u8; 22] = b"\x02\0\x12\0\0\0\x03\0\0\0\x15\0\0\0\x01\0\0\0abcd";
+
+    #[test]
+    fn a_bundle_is_as_by_hand() {
+        assert_eq!(read_bundle(BUNDLE), Ok(2));
+        let images = [0, 1, 2].map(|k| image(BUNDLE, k));
+        assert_eq!(images, [&b"abc"[..], b"d", b""]);
+        assert_eq!([0, 1].map(|k| trusted_image(BUNDLE, k)), images[..2]);
+        let mut buffer = [0xEE; 24];
+        assert_eq!(write_bundle(&[3, 1], b"abcd", &mut buffer), Ok(22));
+        assert_eq!(buffer[..22], *BUNDLE);
+        assert_eq!(buffer[22..], [0xEE; 2]);
+    }
+
+    #[test]
+    fn files_are_refused_as_by_hand() {
+        use Refusal::*;
+        let changed = |at: usize, byte| {
+            let mut file = BUNDLE.to_vec();
+            file[at] = byte;
+            read_bundle(&file)
+        };
+        let lengths = [1, 17, 21].map(|length| read_bundle(&BUNDLE[..length]));
+        assert_eq!(lengths, [Err(Short), Err(Table), Err(Past)]);
+        assert_eq!([changed(0, 0), changed(0, 33)], [Err(Count); 2]);
+        assert_eq!(changed(1, 1), Err(Count));
+        assert_eq!([changed(2, 0x11), changed(13, 1)], [Err(Offset); 2]);
+        assert_eq!([changed(6, 0), changed(14, 0)], [Err(Empty); 2]);
+        assert_eq!([changed(6, 5), changed(17, 0xFF)], [Err(Past); 2]);
+        assert_eq!(changed(6, 2), Err(Offset));
+        let longer = [&BUNDLE[..], b"e"].concat();
+        assert_eq!(read_bundle(&longer), Err(LeftOver));
+    }
+
+    #[test]
+    fn nothing_is_written_as_by_hand() {
+        use Unwritten::*;
+        let refused = |lengths: &[u64], room: usize| {
+            let mut buffer = vec![0xEE; room];
+            let refused = write_bundle(lengths, b"abcd", &mut buffer).expect_err("nothing written");
+            assert_eq!(buffer, vec![0xEE; room]);
+            refused
+        };
+        assert_eq!(refused(&[], 40), Count);
+        assert_eq!(refused(&[1; 33], 400), Count);
+        assert_eq!(refused(&[4, 0], 0), Empty);
+        assert_eq!(refused(&[3, 1], 21), NoRoom);
+        // What would come to 22 bytes if a sum could wrap.
+        assert_eq!(refused(&[5, u64::MAX], 40), NoRoom);
+        assert_eq!(refused(&[5, u64::from(u32::MAX)], 40), NoRoom);
+        assert_eq!(refused(&[1, 2], 40), Lengths);
+        assert_eq!(refused(&[1, 4], 40), Lengths);
+    }
+
+    /// Lengths, most of them fit for a bundle.
+    fn lengths(dice: &mut Dice) -> Vec<u64> {
+        let count = dice.below(36);
+        let mut lengths: Vec<u64> = (0..count).map(|_| 1 + u64::from(dice.below(40))).collect();
+        if let (Some(last), 0) = (lengths.last_mut(), dice.below(8)) {
+            *last = [0, 1 << 32, u64::MAX][dice.below(3) as usize];
+        }
+        lengths
+    }
+
+    #[test]
+    fn bundles_are_written_as_by_the_proved_call() {
+        let mut dice = Dice::new(6);
+        let mut seen = [0; 5];
+        for _ in 0..2_000 {
+            let lengths = lengths(&mut dice);
+            let total = lengths.iter().filter(|length| **length <= 40).sum::<u64>() as u32;
+            // One byte too many or too few now and then.
+            let lent = (total + dice.below(8) / 7).saturating_sub(dice.below(8) / 7);
+            let images = dice.bytes(lent);
+            let room = (head(lengths.len()) as u32 + total + dice.below(3)).saturating_sub(1);
+            let mut ours = dice.bytes(room);
+            let mut awaited = ours.clone();
+            let written = write_bundle(&lengths, &images, &mut ours);
+            let proved = bundle::write(&lengths, &images, &mut awaited);
+            assert_eq!((written, ours), (proved, awaited));
+            seen[written.map_or_else(|why| why.number() as usize, |_| 0)] += 1;
+        }
+        assert!(seen.iter().all(|times| *times > 20), "{seen:?}");
+    }
+
+    /// A bundle, or what a byte that was changed, put in or cut off made of it.
+    fn some_file(dice: &mut Dice) -> Vec<u8> {
+        let lengths: Vec<u64> = (0..=dice.below(32))
+            .map(|_| 1 + u64::from(dice.below(9)))
+            .collect();
+        let images = dice.bytes(lengths.iter().sum::<u64>() as u32);
+        let mut file = vec![0; head(lengths.len()) + images.len()];
+        bundle::write(&lengths, &images, &mut file).expect("room");
+        match dice.below(8) {
+            0 => file.truncate(dice.below(file.len() as u32) as usize),
+            1 => file.truncate(dice.below(4) as usize),
+            2 => file.push(0),
+            3 => file[dice.below(2) as usize] = dice.below(36) as u8,
+            4 => file[6 + 8 * dice.below(lengths.len() as u32) as usize] = dice.below(3) as u8,
+            5 => file[dice.below(head(lengths.len()) as u32) as usize] = dice.below(256) as u8,
+            _ => {}
+        }
+        file
+    }
+
+    #[test]
+    fn bundles_are_read_as_by_the_proved_call() {
+        let mut dice = Dice::new(7);
+        let mut seen = [0; 8];
+        for _ in 0..4_000 {
+            let file = some_file(&mut dice);
+            let read = read_bundle(&file);
+            assert_eq!(read, bundle::read(&file));
+            for k in [0, 1, dice.below(32) as usize, 31, 32, usize::MAX] {
+                assert_eq!(image(&file, k), bundle::image(&file, k));
+            }
+            for k in 0..read.unwrap_or(0) {
+                assert_eq!(trusted_image(&file, k), bundle::image(&file, k));
+            }
+            seen[read.map_or_else(|why| why.number() as usize, |_| 0)] += 1;
+        }
+        assert!(seen.iter().all(|times| *times > 20), "{seen:?}");
     }
 
     #[test]
