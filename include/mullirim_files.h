@@ -94,7 +94,8 @@ struct mullirim_part {
     size_t length;
 };
 
-/* Why no bundle is written: the first of these that holds, if any. All but the last look at the lengths alone. */
+/* Why no bundle is written: the first of these that holds, if any. All but the last look at the lengths and at buffer_len, and at no
+ * image's bytes. */
 enum mullirim_bundle_unwritten {
     MULLIRIM_BUNDLE_WRITTEN = 0,       /* none does */
     MULLIRIM_BUNDLE_WRONG_COUNT = 1,   /* no image, or over 32 */
@@ -106,7 +107,8 @@ enum mullirim_bundle_unwritten {
 /* Reads a bundle. */
 struct mullirim_bundle_found mullirim_bundle_read(const uint8_t *file, size_t file_len);
 
-/* Where image k of a bundle lies, counted from 0. Zeros where the file is no bundle, or k is not below its count. */
+/* Where image k of a bundle lies, counted from 0; that is always within the file. Zeros where the file is no bundle, or k is not below
+ * its count. */
 struct mullirim_part mullirim_bundle_image(const uint8_t *file, size_t file_len, size_t k);
 
 /*

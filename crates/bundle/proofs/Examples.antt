@@ -1,12 +1,14 @@
 -- A worked example: the bundle of the one image 123456789; one damage for each refusal; and that such images may be in a bundle.
 -- Assumes nothing.
-use Prim.Native.Nat.{ℕ, zero, suc, _+_, _^_, _≤_, _<_}
-use mathlib.Core.List.{List, [], _∷_}
+use Prim.Native.Nat.{ℕ, zero, suc, _+_, _-_, _^_, _≤_, _<_}
+use mathlib.Core.Bool.{true, false}
+use mathlib.Core.List.{List, [], _∷_, _++_}
 use mathlib.Core.Path.{_≡_, refl}
 use native.Mathlib.Omega.{arith}
-use lib.ListN.{getD, take, set}
+use lib.ListN.{getD, take, set, replicate}
 use Rattle.bundle.specs.declared.Reading.the-variants.{Bundle, Short, Count, Table, Offset, Empty, Past, LeftOver}
-use Rattle.bundle.specs.Bundle.{entriesOf, bundleOf, readFrom, readOf, imagesIn, partOf, imageOf, total}
+use Rattle.bundle.specs.declared.Writing.the-variants.{Wrote, WrongCount, EmptyImage, NoRoom, WrongLengths}
+use Rattle.bundle.specs.Bundle.{entriesOf, bundleOf, readFrom, readOf, imagesIn, partOf, imageOf, hasEmpty, fitsIn, total, left, writeOf}
 use Rattle.bundle.specs.Claims.{Legal, bundled}
 
 -- the ASCII bytes 123456789
@@ -51,6 +53,32 @@ refusal-examples =
       past = refl;
       left-over = refl;
     }
+
+-- the borders of 32 bits, for the only image and for the one behind it; and the most images
+pub record Borders : Type 0 where
+  longest : fitsIn (2 ^ 33) 10 ((2 ^ 32 - 1) ∷ []) ≡ true
+  too-long : fitsIn (2 ^ 33) 10 ((2 ^ 32) ∷ []) ≡ false
+  farthest : fitsIn (2 ^ 33) 18 ((2 ^ 32 - 19) ∷ 1 ∷ []) ≡ true
+  too-far : fitsIn (2 ^ 33) 18 ((2 ^ 32 - 18) ∷ 1 ∷ []) ≡ false
+  most : readOf (bundled (replicate 32 (7 ∷ []))) ≡ Bundle 32
+
+pub border-examples : Borders
+unfolding fitsIn bundleOf entriesOf readOf readFrom
+border-examples = record { longest = refl; too-long = refl; farthest = refl; too-far = refl; most = refl }
+
+-- the writer: each refusal, the first of those that hold, and what it writes
+pub record Writings : Type 0 where
+  no-image : writeOf [] [] [] ≡ left WrongCount []
+  too-many : writeOf (replicate 33 0) [] [] ≡ left WrongCount []
+  empty : writeOf (9 ∷ 0 ∷ []) digits [] ≡ left EmptyImage []
+  no-room : writeOf (9 ∷ []) [] (replicate 18 255) ≡ left NoRoom (replicate 18 255)
+  lengths : writeOf (8 ∷ []) digits (replicate 19 255) ≡ left WrongLengths (replicate 19 255)
+  written : writeOf (9 ∷ []) digits (replicate 20 255) ≡ left (Wrote 19) (file ++ 255 ∷ [])
+
+pub writing-examples : Writings
+unfolding hasEmpty fitsIn total bundleOf entriesOf writeOf
+writing-examples =
+    record { no-image = refl; too-many = refl; empty = refl; no-room = refl; lengths = refl; written = refl }
 
 -- what holds for nine holds for the length of the only image
 only-length : (P : ℕ → Type 0) → P 9 → (k : ℕ) → k < 1 → P (getD (9 ∷ []) k 0)

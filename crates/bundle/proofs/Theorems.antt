@@ -74,7 +74,7 @@ read-bundled images legal =
     given (bundled images) (Bundle (length images))
     (said (bundled images) (Bundle (length images)) (record { images = images; made = refl; many = refl; legal = legal }))
 
-images-in : (images : List (List ℕ)) → Legal images → imagesIn (readOf (bundled images)) ≡ length images
+pub images-in : (images : List (List ℕ)) → Legal images → imagesIn (readOf (bundled images)) ≡ length images
 unfolding imagesIn
 images-in images legal = ap imagesIn (read-bundled images legal)
 

@@ -191,8 +191,7 @@ WriteRead read image write =
     → length bytes ≤ length buffer
     → write (lengthsOf images) (joined images) buffer ≡ left (Wrote (length bytes)) (bytes ++ drop (length bytes) buffer)
 
--- one list of images has exactly one bundle: no two accepted files have the same images, each accepted file has some, and each list
--- that is written has one
+-- no two accepted files have the same images, and each list that is written has a bundle
 pub record OneBundle (read : List ℕ → Reading) (image : List ℕ → ℕ → List ℕ) (write : List ℕ → List ℕ → List ℕ → Left) : Type 0 where
   pub same :
       (bytes other : List ℕ) (images : List (List ℕ)) → Bytes bytes → Bytes other → Holds read image bytes images

@@ -1,4 +1,4 @@
-// A site bundle: the images for a village end to end in one file, behind a count and an entry for each of them. It is read from
+// A site bundle: images packed end to end into one file, behind a count and an entry for each of them. It is read from
 // any bytes, and written into a lent buffer.
 ghost use Prim.Native.Nat.{_+_, _^_, _≤_, _<_};
 ghost use mathlib.Core.Bool.{true};

@@ -4,7 +4,9 @@ use bundle::Part;
 use suffix::Parts;
 use suffix::Reading;
 use suffix::Writing;
+ghost use Prim.Native.Nat.{_+_, _≤_};
 ghost use mathlib.Core.Path.{_≡_};
+ghost use lib.ListN.{length};
 ghost use Rattle.suffix.specs.Suffix.{readOf};
 ghost use Rattle.bundle.specs.Bundle.{partOf};
 ghost use Rattle.bundle.specs.Bundle as Bundle;
@@ -85,7 +87,7 @@ pub extern "C" fn mullirim_bundle_read(file: &[u8]) -> BundleFound
 
 #[no_mangle]
 pub extern "C" fn mullirim_bundle_image(file: &[u8], k: usize) -> Part
-    ensures { λ r. ⌜ r ≡ partOf (now (file .entry)) k ⌝ }
+    ensures { λ r. ⌜ (r ≡ partOf (now (file .entry)) k) × (r .from + r .length ≤ length (now (file .entry))) ⌝ }
 {
     bundle::part_of(file, k)
 }

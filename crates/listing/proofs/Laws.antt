@@ -4,7 +4,7 @@ use mathlib.Core.List.{List, [], _++_}
 use mathlib.Core.Path.{_≡_, sym, ap, _∙_}
 use native.Mathlib.Decide.{decLt}
 use native.Mathlib.Omega.{arith}
-use lib.ListN.{length, drop, length-take, length-drop}
+use lib.ListN.{length, drop, length-append, length-take, length-drop}
 use borrow.Author.Tests.{lt-ltb, le-ltb, eq-eqb, ne-eqb}
 use Rattle.pieces.specs.Pieces.{Laid}
 use Rattle.pieces.proofs.Laws.{laid-as, laid-more}
@@ -18,8 +18,12 @@ use Rattle.listing.specs.Listing.{mostBytes, refusedWord, imagesWord, sp
 pub two-digits : (n : ℕ) → n < 100 → length (decimalOf n) ≤ 2
 two-digits n h = decimal-short 1 n h
 
-pub five-digits : (n : ℕ) → n ≤ mostBytes → length (decimalOf n) ≤ 5
-five-digits n h = decimal-short 4 n (omega arith)
+-- and with the space behind it
+pub short-number : (n : ℕ) → n < 100 → length (decimalOf n ++ space) ≤ 3
+short-number n h = omega (arith, two-digits n h, length-append (decimalOf n) space)
+
+pub long-number : (n : ℕ) → n ≤ mostBytes → length (decimalOf n ++ space) ≤ 6
+long-number n h = omega (arith, decimal-short 4 n (omega arith), length-append (decimalOf n) space)
 
 -- the images to list
 pub too-long : (bytes : List ℕ) → mostBytes < length bytes → listed bytes ≡ 0

@@ -1,2 +1,3 @@
 -- What the list of a bundle's images looks like.
 pub mod Listing
+pub mod Claims

@@ -1,4 +1,4 @@
-//! A site bundle: all images for a village in one file.
+//! A site bundle: images packed end to end behind a count and an entry for each.
 
 use crate::raw;
 use mullirim_host::layout::{BundleFound, Part, Written};

@@ -7,7 +7,7 @@ use std::ffi::{OsStr, OsString};
 use std::path::{Path, PathBuf};
 
 pub const HELP: &str = "\
-mullirim bundle: all images for a village in one file
+mullirim bundle: the images of a site, packed into one file
 
   mullirim bundle list FILE      how many images the file holds, and of each
                                  its number from 0, its length and its sum;

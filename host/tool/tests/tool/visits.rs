@@ -38,7 +38,7 @@ fn help_is_shown_everywhere() {
     let mut words = words.iter().chain(&more);
     assert!(words.all(|word| suffix.contains(word)));
     let bundle = folder.done(&["bundle", "--help"]);
-    assert!(bundle.starts_with("mullirim bundle: all images for a village in one file"));
+    assert!(bundle.starts_with("mullirim bundle: the images of a site, packed into one file"));
     assert_eq!(folder.done(&["bundle", "unpack", "-o", "--help"]), bundle);
     let words = ["list", "pack", "unpack", "-o", "--json", "--overwrite"];
     let more = ["--help", "64 MiB", "1 to 32", "image-00.bin"];
