@@ -10,9 +10,9 @@ ghost use Rattle.pieces.specs.Pieces.{Laid};
 ghost use Rattle.bundle.specs.Bundle.{headSize, canCount, entryAt, endOf, readFrom, readOf, refusalNumber, imagesIn, partOf, imageOf};
 ghost use Rattle.bundle.specs.Bundle.{hasEmpty, fitsIn, total, entriesOf, bundleOf, Writable, left, writeOf, unwrittenNumber, bytesWritten};
 
-// The bytes of the count, and of an entry.
+// The bytes of the count.
 const COUNT: usize = 2;
-
+// The bytes of an entry.
 const ENTRY: usize = 8;
 // The most images of a bundle.
 const MOST: usize = 32;
@@ -63,7 +63,7 @@ fn can_count(n: usize) -> bool
     (1 <= n) & (n <= MOST)
 }
 
-// The bytes before the images; and where the entry stands that so many are before.
+// The bytes of the count and of n entries: where the images of n begin, and where entry n stands.
 fn head(n: usize) -> usize
     requires { ⌜ headSize n < 2 ^ 64 ⌝ }
     ensures { λ r. ⌜ r ≡ headSize n ⌝ }
