@@ -17,12 +17,12 @@ use Rattle.pieces.proofs.Laws.{laid-more, laid-front}
 use Rattle.pieces.proofs.Tests.{Tells, both, at-most, neither, either-way}
 use Rattle.bundle.specs.declared.Writing.{Writing}
 use Rattle.bundle.specs.declared.Writing.the-variants.{Wrote, WrongCount, EmptyImage, NoRoom, WrongLengths}
-use Rattle.bundle.specs.Bundle.{canCount, headSize, hasEmpty, fitsIn, total, sizeOf, entriesOf, bundleOf, Writable, left, writeOf, bytesWritten}
+use Rattle.bundle.specs.Bundle.{mostImages, canCount, headSize, hasEmpty, fitsIn, total, sizeOf, entriesOf, bundleOf, Writable, left, writeOf, bytesWritten}
 use Rattle.bundle.proofs.Writing.{the-type}
 
--- a bundle has 1 to 32 images
-pub count-tells : (n : ℕ) → Tells (canCount n) ((1 ≤ n) × (n ≤ 32))
-count-tells n = both _ _ _ _ (at-most 1 n) (at-most n 32)
+-- how many images a bundle may have
+pub count-tells : (n : ℕ) → Tells (canCount n) ((1 ≤ n) × (n ≤ mostImages))
+count-tells n = both _ _ _ _ (at-most 1 n) (at-most n mostImages)
 
 -- the numbers from place k on are the one there and those behind it; at the end there is none
 module _ (l : List ℕ) (k : ℕ) where

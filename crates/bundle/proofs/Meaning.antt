@@ -13,7 +13,7 @@ use Rattle.pieces.proofs.Tests.{tells-no, isnt, either-way}
 use Rattle.bundle.specs.declared.Entry.{Entry}
 use Rattle.bundle.specs.declared.Reading.{Reading}
 use Rattle.bundle.specs.declared.Reading.the-variants.{Bundle, Short, Count, Table, Offset, Empty, Past, LeftOver}
-use Rattle.bundle.specs.Bundle.{canCount, headSize, entryAt, endOf, readFrom, readOf, imagesIn}
+use Rattle.bundle.specs.Bundle.{mostImages, canCount, headSize, entryAt, endOf, readFrom, readOf, imagesIn}
 use Rattle.bundle.specs.Claims.{count, start, LongEnough, CountGood, TableThere, Headed, InPlace}
 use Rattle.bundle.specs.Claims.{EntryGood, GoodBelow, AtEntry, Says}
 use Rattle.bundle.proofs.Laws.{count-tells}
@@ -153,8 +153,8 @@ image-inside bytes k h =
     let table : TableThere bytes = a .0 .headed .table-there in
     (omega arith, a .0 .good k there .inside)
 
--- and it counts 32 at most
-pub few-images : (bytes : List ℕ) → imagesIn (readOf bytes) ≤ 32
+-- and it counts no more than a bundle may have
+pub few-images : (bytes : List ℕ) → imagesIn (readOf bytes) ≤ mostImages
 few-images bytes =
     elim (decLt 0 (imagesIn (readOf bytes))) [
       | yes l ↦

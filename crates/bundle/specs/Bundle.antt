@@ -13,9 +13,12 @@ use Rattle.bundle.specs.declared.Reading.the-variants.{Bundle, Short, Co
 use Rattle.bundle.specs.declared.Writing.{Writing}
 use Rattle.bundle.specs.declared.Writing.the-variants.{Wrote, WrongCount, EmptyImage, NoRoom, WrongLengths}
 
--- whether a bundle may have n images
+-- the most images of a bundle, and whether it may have n
+abbrev pub mostImages : ℕ
+mostImages = 32
+
 abbrev pub canCount : ℕ → Bool
-canCount n = leb 1 n && leb n 32
+canCount n = leb 1 n && leb n mostImages
 
 -- the bytes of the count and of n entries
 abbrev pub headSize : ℕ → ℕ

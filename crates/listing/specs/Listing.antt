@@ -1,5 +1,5 @@
 -- The list of a bundle's images as text, in ASCII.
-use Prim.Native.Nat.{ℕ, zero, suc, _+_}
+use Prim.Native.Nat.{ℕ, zero, suc, _+_, _*_}
 use mathlib.Core.Bool.{cond}
 use mathlib.Core.List.{List, [], _∷_, _++_}
 use lib.Dec.{eqb, ltb}
@@ -7,7 +7,7 @@ use lib.ListN.{length}
 use Rattle.crc.specs.Crc.{crcOf}
 use Rattle.print.specs.Hex.{hexOf}
 use Rattle.print.specs.Decimal.{decimalOf}
-use Rattle.bundle.specs.Bundle.{readOf, imagesIn, imageOf}
+use Rattle.bundle.specs.Bundle.{mostImages, readOf, imagesIn, imageOf}
 
 -- the longest file that is listed
 abbrev pub mostBytes : ℕ
@@ -45,6 +45,12 @@ listOf bytes =
     cond (eqb (listed bytes) 0) (refusedWord ++ feed)
     ((imagesWord ++ decimalOf (listed bytes) ++ feed) ++ linesFrom bytes (listed bytes) 0)
 
--- the most bytes of a text: a first line of 10 and 32 of 18
+-- the most bytes of the first line, of an image's, and of the whole text
+abbrev pub mostFirst : ℕ
+mostFirst = 10
+
+abbrev pub mostLine : ℕ
+mostLine = 18
+
 abbrev pub mostText : ℕ
-mostText = 586
+mostText = mostFirst + mostImages * mostLine

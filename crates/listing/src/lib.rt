@@ -4,7 +4,8 @@ ghost use mathlib.Core.Path.{_≡_};
 ghost use mathlib.Core.List.{_++_};
 ghost use lib.ListN.{length};
 ghost use Rattle.pieces.specs.Pieces.{Laid};
-ghost use Rattle.listing.specs.Listing.{mostBytes, imagesWord, space, feed, lineOf, linesFrom, listed, listOf, mostText};
+ghost use Rattle.listing.specs.Listing.{mostBytes, imagesWord, space, feed, lineOf, linesFrom, listed, listOf, mostFirst, mostLine, mostText};
+ghost use Rattle.bundle.specs.Bundle.{mostImages};
 ghost use Rattle.print.specs.Decimal.{decimalOf};
 ghost use Rattle.print.specs.Hex.{hexOf};
 ghost use Rattle.crc.specs.Crc.{crcOf};
@@ -13,7 +14,7 @@ ghost use Rattle.crc.specs.Crc.{crcOf};
 const MOST: usize = 65_536;
 
 fn images(file: &[u8]) -> usize
-    ensures { λ r. ⌜ (r ≡ listed (now (file .entry))) × (r ≤ 32) ⌝ }
+    ensures { λ r. ⌜ (r ≡ listed (now (file .entry))) × (r ≤ mostImages) ⌝ }
 {
     if MOST < file.len() {
         return 0;
@@ -40,10 +41,10 @@ fn sum(image: &[u8], text: &mut [u8], at: usize) -> usize
     pieces::put(b"\n", text, end)
 }
 
-// An image's line. It has 18 bytes at most, for a number below 100 and a length of up to five digits.
+// An image's line, for a number of up to two digits and a length of up to five.
 fn line(k: usize, image: &[u8], text: &mut [u8], at: usize) -> usize
-    requires { ⌜ (k < 100) × (length (now image) ≤ mostBytes) × (at + 18 ≤ length (now text)) ⌝ }
-    ensures { λ r. ⌜ (Laid (now (text .entry)) (now (text .exit)) at r (lineOf k (now (image .entry)))) × (r ≤ at + 18) ⌝ }
+    requires { ⌜ (k < 100) × (length (now image) ≤ mostBytes) × (at + mostLine ≤ length (now text)) ⌝ }
+    ensures { λ r. ⌜ (Laid (now (text .entry)) (now (text .exit)) at r (lineOf k (now (image .entry)))) × (r ≤ at + mostLine) ⌝ }
 {
     let first = number(k as u64, text, at);
     let second = number(image.len() as u64, text, first);
@@ -51,8 +52,8 @@ fn line(k: usize, image: &[u8], text: &mut [u8], at: usize) -> usize
 }
 
 fn lines(file: &[u8], count: usize, text: &mut [u8], at: usize) -> usize
-    requires { ⌜ (count ≤ 32) × (length (now file) ≤ mostBytes) × (at + 18 * count ≤ length (now text)) ⌝ }
-    ensures { λ r. ⌜ (Laid (now (text .entry)) (now (text .exit)) at r (linesFrom (now (file .entry)) count 0)) × (r ≤ at + 18 * count) ⌝ }
+    requires { ⌜ (count ≤ mostImages) × (length (now file) ≤ mostBytes) × (at + mostLine * count ≤ length (now text)) ⌝ }
+    ensures { λ r. ⌜ (Laid (now (text .entry)) (now (text .exit)) at r (linesFrom (now (file .entry)) count 0)) × (r ≤ at + mostLine * count) ⌝ }
 {
     let mut end = at;
     let mut k = 0;
@@ -64,8 +65,8 @@ fn lines(file: &[u8], count: usize, text: &mut [u8], at: usize) -> usize
 }
 
 fn first_line(count: usize, text: &mut [u8]) -> usize
-    requires { ⌜ (count < 100) × (10 ≤ length (now text)) ⌝ }
-    ensures { λ r. ⌜ (Laid (now (text .entry)) (now (text .exit)) 0 r (imagesWord ++ decimalOf count ++ feed)) × (r ≤ 10) ⌝ }
+    requires { ⌜ (count < 100) × (mostFirst ≤ length (now text)) ⌝ }
+    ensures { λ r. ⌜ (Laid (now (text .entry)) (now (text .exit)) 0 r (imagesWord ++ decimalOf count ++ feed)) × (r ≤ mostFirst) ⌝ }
 {
     let word = pieces::put(b"images ", text, 0);
     let number = print::decimal(count as u64, text, word);

@@ -4,7 +4,7 @@ use mathlib.Core.List.{List, [], _++_, append-assoc, append-nil}
 use mathlib.Core.Path.{_≡_, sym, ap, ap₂, subst, _∙_}
 use native.Mathlib.Omega.{arith}
 use lib.ListN.{length, take, drop, length-append, length-drop, drop-of-length-le}
-use lib.Seq.{take-all, take-length, drop-drop, paste-zero, length-paste, take-paste, drop-paste}
+use lib.Seq.{take-all, take-length, drop-drop, paste-zero, take-paste, drop-paste}
 use Rattle.pieces.specs.Pieces.{placed, Laid}
 
 -- a copy to the front of a buffer's rest, put back into the buffer
@@ -22,11 +22,6 @@ put-rest buffer bytes new at h e =
     (drop-of-length-le (drop at buffer) long)
     ∙ ap (λ (x : List ℕ). take at buffer ++ x) (append-nil (all ++ drop (at + length bytes) buffer))
     ∙ sym (append-assoc (take at buffer) all (drop (at + length bytes) buffer))
-
-pub length-placed :
-    (buffer : List ℕ) (at : ℕ) (bytes : List ℕ) → at + length bytes ≤ length buffer
-    → length (placed buffer at bytes) ≡ length buffer
-length-placed buffer at bytes h = length-paste buffer at bytes (length bytes) h (omega arith)
 
 -- nothing is laid
 pub placed-none : (buffer : List ℕ) (at : ℕ) → placed buffer at [] ≡ buffer

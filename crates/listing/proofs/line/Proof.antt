@@ -1,4 +1,4 @@
--- Number, length and sum are laid one behind the other, and have 18 bytes at most. Assumes nothing.
+-- Number, length and sum are laid one behind the other, and are no longer than a line may be. Assumes nothing.
 use native.Mathlib.Omega.{arith}
 use lib.ListN.{length, length-append}
 use borrow.Author.Needs.{needs}

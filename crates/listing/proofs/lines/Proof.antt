@@ -6,7 +6,7 @@ use native.Mathlib.Omega.{arith}
 use lib.ListN.{length}
 use borrow.Author.Needs.{needs}
 use Rattle.pieces.proofs.Laws.{Owed, owed-all, owed-less, owed-none}
-use Rattle.listing.specs.Listing.{lineOf, linesFrom}
+use Rattle.listing.specs.Listing.{lineOf, linesFrom, mostLine}
 use Rattle.listing.proofs.Laws.{lines-next, lines-none, image-short}
 use Rattle.listing.proofs.lines.Statement.{statement}
 use Rattle.listing.proofs.lines.Tie as tie
@@ -14,7 +14,7 @@ use Rattle.listing.proofs.lines.Tie as tie
 abbrev Inv-loop : tie.InvT-loop
 Inv-loop file count text₀ at end₀ k₀ text end k =
     (k ≤ count)
-    × (end ≤ at + 18 * k)
+    × (end ≤ at + mostLine * k)
     × (length text ≡ length text₀)
     × Owed text₀ text at end (linesFrom file count 0) (linesFrom file (count - k) k)
 

@@ -11,43 +11,53 @@ fn help_is_shown_everywhere() {
         assert!(all.contains(&format!("  mullirim {command} ")));
     }
     assert_eq!(folder.done(&["fly", "--help"]), all);
-    let visit = folder.done(&["visit", "--help"]);
-    assert!(visit.starts_with("mullirim visit: a technician's visit"));
-    assert_eq!(folder.done(&["visit", "--fast", "--help"]), visit);
-    let flags = [
-        "--flash", "--image", "--plain", "--split", "--save", "--after", "--help",
-    ];
-    assert!(flags.iter().all(|flag| visit.contains(flag)));
-    let sums = folder.done(&["sums", "--help"]);
-    assert!(sums.starts_with("mullirim sums: the sums that the dashboard reads"));
-    assert_eq!(folder.done(&["sums", "a", "b", "--help"]), sums);
-    let flags = [
-        "--image",
-        "--split",
-        "--compare",
-        "--plain",
-        "--json",
-        "--help",
-    ];
-    assert!(flags.iter().all(|flag| sums.contains(flag)));
-    let suffix = folder.done(&["suffix", "--help"]);
-    assert!(suffix.starts_with("mullirim suffix: the last 16 bytes of DFU files"));
-    assert_eq!(folder.done(&["suffix", "add", "-o", "--help"]), suffix);
-    let words = ["show", "check", "add", "--device", "--product", "--vendor"];
-    let more = ["-o", "--json", "--help", "64 MiB", "is written over"];
-    let mut words = words.iter().chain(&more);
-    assert!(words.all(|word| suffix.contains(word)));
-    let bundle = folder.done(&["bundle", "--help"]);
-    assert!(bundle.starts_with("mullirim bundle: the images of a site, packed into one file"));
-    assert_eq!(folder.done(&["bundle", "unpack", "-o", "--help"]), bundle);
-    let words = ["list", "pack", "unpack", "-o", "--json", "--overwrite"];
-    let more = ["--help", "64 MiB", "1 to 32", "image-00.bin"];
-    let mut words = words.iter().chain(&more);
-    assert!(words.all(|word| bundle.contains(word)));
-    for text in [all, visit, sums, suffix, bundle] {
-        assert!(text.lines().all(|line| line.len() < 80), "{text}");
-        assert!(text.contains("Exit: 0 done"));
+    help_is_whole(&all);
+}
+
+#[test]
+fn help_tells_of_the_board() {
+    help_tells(
+        &["visit", "--fast"],
+        "mullirim visit: a technician's visit",
+        "--flash|--image|--plain|--split|--save|--after|--help",
+    );
+    help_tells(
+        &["sums", "a", "b"],
+        "mullirim sums: the sums that the dashboard reads",
+        "--image|--split|--compare|--plain|--json|--help",
+    );
+}
+
+#[test]
+fn help_tells_of_files() {
+    help_tells(
+        &["suffix", "add", "-o"],
+        "mullirim suffix: the last 16 bytes of DFU files",
+        "show|check|add|--device|--product|--vendor|-o|--json|--help|64 MiB|is written over",
+    );
+    help_tells(
+        &["bundle", "unpack", "-o"],
+        "mullirim bundle: the images of a site, packed into one file",
+        "list|pack|unpack|-o|--json|--overwrite|--help|64 MiB|1 to 32|image-00.bin",
+    );
+}
+
+/// A command's help begins so and has these words, and is the same wherever it
+/// is asked for behind the command's name.
+fn help_tells(words: &[&str], begins: &str, has: &str) {
+    let folder = Folder::new("help");
+    let help = folder.done(&[words[0], "--help"]);
+    assert!(help.starts_with(begins));
+    assert_eq!(folder.done(&[words, &["--help"]].concat()), help);
+    for word in has.split('|') {
+        assert!(help.contains(word), "{word}");
     }
+    help_is_whole(&help);
+}
+
+fn help_is_whole(help: &str) {
+    assert!(help.lines().all(|line| line.len() < 80), "{help}");
+    assert!(help.contains("Exit: 0 done"));
 }
 
 #[test]
