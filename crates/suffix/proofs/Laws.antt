@@ -9,7 +9,7 @@ use Rattle.pieces.specs.Pieces.{Laid}
 use Rattle.pieces.proofs.Laws.{laid-more, laid-front}
 use Rattle.suffix.specs.declared.Parts.{Parts}
 use Rattle.suffix.specs.declared.Writing.the-variants.{Wrote, NoRoom}
-use Rattle.suffix.specs.Suffix.{frontOf, sumBytes, suffixed, sizeWith, laid, left, writeOf}
+use Rattle.suffix.specs.Suffix.{frontSize, frontOf, sumBytes, suffixed, sizeWith, laid, left, writeOf}
 
 -- the file, the front and the sum, one behind the other
 pub laid-by :
@@ -20,7 +20,7 @@ unfolding frontOf sumBytes suffixed laid
 laid-by file p front sum b b1 b2 b3 n1 n2 n3 f s one two three =
     let both : Laid b b2 0 n2 (file ++ front) = laid-more b b1 b2 0 n1 n2 file front (omega arith) one two in
     let all : Laid b b3 0 n3 ((file ++ front) ++ sum) = laid-more b b2 b3 0 n2 n3 (file ++ front) sum (omega arith) both three in
-    let twelve : length front ≡ 12 = ap length f in
+    let twelve : length front ≡ frontSize = ap length f in
     let four : length sum ≡ 4 = ap length s in
     let end : n3 ≡ sizeWith file =
     omega (arith, all .behind, length-append (file ++ front) sum, length-append file front)
