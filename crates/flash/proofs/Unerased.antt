@@ -1,16 +1,20 @@
--- The search: one byte further, at the first byte that is not erased, and at the end; it finds nothing exactly if all is erased.
+-- The search: one byte further, past erased bytes, at the first byte that is not erased, and at the end; it finds nothing exactly if all
+-- is erased.
 -- Assumes nothing.
-use Prim.Native.Nat.{ℕ, zero, suc, _+_, _-_, _≤_, _<_}
-use mathlib.Core.Path.{_≡_, refl, sym, ap, _∙_}
-use mathlib.Core.List.{List, [], _∷_}
+use Prim.Native.Nat.{ℕ, zero, suc, _+_, _-_, _^_, _≤_, _<_}
+use mathlib.Core.Path.{_≡_, refl, sym, ap, ap₂, subst, _∙_}
+use mathlib.Core.List.{List, [], _∷_, _++_}
 use native.Mathlib.Decide.{ℕ-discrete}
 use native.Mathlib.Omega.{arith}
 use borrow.Author.Tests.{eq-eqb, ne-eqb}
-use lib.ListN.{length, drop, getD}
-use lib.Seq.{drop-cons, getD-take, getD-drop, drop-length}
-use Rattle.flash.specs.Flash.{firstIn, searched, range, blank, startOf}
+use lib.ListN.{length, take, drop, getD, replicate-append-replicate}
+use lib.Seq.{drop-cons, getD-take, getD-drop, drop-length, drop-drop, take-add}
+use Rattle.numbers.specs.Numbers.{longAt, bytes4}
+use Rattle.numbers.proofs.Laws.{long-taken, long-fits}
+use Rattle.flash.specs.Flash.{firstIn, searched, range, blank, startOf, eightAt, Passed}
 use Rattle.flash.specs.declared.Found.{Found}
 use Rattle.flash.proofs.Laws.{length-range}
+use Rattle.flash.proofs.Writing.{blank-byte}
 
 -- the search from address at to address end finds what the whole search finds
 pub record Ahead (f : List ℕ) (from n at : ℕ) : Type 0 where
@@ -27,15 +31,55 @@ ahead-from f from n at e =
       high = omega arith;
     }
 
+-- a byte of a range
+range-byte : (f : List ℕ) (at n k : ℕ) → k < n → getD (range f at n) k 0 ≡ getD f (at + k) 0
+unfolding range
+range-byte f at n k lt = getD-take n (drop at f) k 0 lt ∙ getD-drop at f k 0
+
+-- nothing is passed over at first; and erased bytes behind erased ones are a longer run of them
+pub passed-none : (f : List ℕ) (at stop : ℕ) → at ≤ stop → Passed f at stop at
+unfolding range blank
+passed-none f at stop le =
+    let none : at - at ≡ 0 = omega arith in record { low = omega arith; high = le; over = rw none refl }
+
+blank-more : (f : List ℕ) (at m n : ℕ) → range f at m ≡ blank m → range f (at + m) n ≡ blank n → range f at (m + n) ≡ blank (m + n)
+unfolding range blank
+blank-more f at m n a b =
+    take-add m n (drop at f)
+    ∙ ap₂ _++_ a (ap (take n) (drop-drop m at f) ∙ b)
+    ∙ replicate-append-replicate m n 255
+
+-- a number of two halves is the greatest one only if both are
+module _ (f : List ℕ) (byte : (k : ℕ) → getD f k 0 < 256) where
+  four-blank : (at : ℕ) → at + 4 ≤ length f → longAt f at ≡ 2 ^ 32 - 1 → range f at 4 ≡ blank 4
+  unfolding range blank
+  four-blank at h e = sym (long-taken f byte at h) ∙ ap bytes4 e
+
+  eight-blank : (at : ℕ) → at + 8 ≤ length f → eightAt f at ≡ 2 ^ 64 - 1 → range f at 8 ≡ blank 8
+  eight-blank at h e =
+      let low = long-fits f byte at in
+      let high = long-fits f byte (at + 4) in
+      blank-more f at 4 4
+      (four-blank at (omega arith) (omega (arith, low, high)))
+      (four-blank (at + 4) (omega arith) (omega (arith, low, high)))
+
+  pub passed-eight :
+      (at stop next : ℕ) → stop ≤ length f → next + 8 ≤ stop → eightAt f next ≡ 2 ^ 64 - 1 → Passed f at stop next
+      → Passed f at stop (next + 8)
+  passed-eight at stop next h le e p =
+      let here : at + (next - at) ≡ next = omega (arith, p .low) in
+      let long : next + 8 - at ≡ next - at + 8 = omega (arith, p .low) in
+      let eight : range f (at + (next - at)) 8 ≡ blank 8 = rw here (eight-blank next (omega arith) e) in
+      record { low = omega (arith, p .low); high = le; over = rw long (blank-more f at (next - at) 8 (p .over) eight) }
+
 module _ (f : List ℕ) (from n : ℕ) (h : from + n ≤ length f) where
   byte-at : (at : ℕ) → from ≤ at → at < from + n → drop (at - from) (range f from n) ≡ getD f at 0 ∷ drop (at + 1 - from) (range f from n)
-  unfolding range
   byte-at at low lt =
       let here : from + (at - from) ≡ at = omega arith in
       let next : suc (at - from) ≡ at + 1 - from = omega arith in
       drop-cons (range f from n) (at - from) 0 (rw (length-range f from n h) (omega arith))
       ∙ ap (λ (b : ℕ). b ∷ drop (suc (at - from)) (range f from n))
-      (getD-take n (drop from f) (at - from) 0 (omega arith) ∙ getD-drop from f (at - from) 0 ∙ ap (λ (k : ℕ). getD f k 0) here)
+      (range-byte f from n (at - from) (omega arith) ∙ ap (λ (k : ℕ). getD f k 0) here)
       ∙ ap (λ (k : ℕ). getD f at 0 ∷ drop k (range f from n)) next
 
   pub ahead-one : (at : ℕ) → at < from + n → getD f at 0 ≡ 255 → Ahead f from n at → Ahead f from n (at + 1)
@@ -66,6 +110,24 @@ module _ (f : List ℕ) (from n : ℕ) (h : from + n ≤ length f) where
         ∙ ap (λ (k : ℕ). firstIn at (drop k (range f from n))) past
         ∙ ap (firstIn at) (drop-length (range f from n)))
         ∙ ap (λ (k : ℕ). firstIn k (range f k n)) e
+
+  -- past bytes that are all erased
+  module _ (at stop next : ℕ) (le : stop ≤ from + n) (p : Passed f at stop next) (a : Ahead f from n at) where
+    erased-at : (k : ℕ) → k < next - at → getD f (at + k) 0 ≡ 255
+    erased-at k lt =
+        sym (range-byte f at (next - at) k lt)
+        ∙ ap (λ (l : List ℕ). getD l k 0) (p .over)
+        ∙ sym (blank-byte (next - at) k lt)
+
+    ahead-by : (k to : ℕ) → k ≤ next - at → at + k ≡ to → Ahead f from n to
+    ahead-by zero to lt e = let same : at ≡ to = omega arith in subst (Ahead f from n) same a
+    ahead-by (suc k) to lt e =
+        let one : at + k + 1 ≡ to = omega arith in
+        let there = ahead-by k (at + k) (omega arith) refl in
+        subst (Ahead f from n) one (ahead-one (at + k) (omega (arith, p .high)) (erased-at k (omega arith)) there)
+
+    pub ahead-passed : Ahead f from n next
+    ahead-passed = ahead-by (next - at) next (omega arith) (omega (arith, p .low))
 
 -- nothing found: all bytes are erased
 all-erased : (at : ℕ) (xs : List ℕ) → firstIn at xs ≡ Found.Nothing → xs ≡ blank (length xs)

@@ -1,9 +1,11 @@
 -- Flash as a list of bytes, and what erasing, programming and searching leave of it or find in it.
 use Prim.Native.Nat.{ℕ, _+_, _-_, _*_, _/_, _^_, _≤_, _<_}
 use mathlib.Core.Bool.{Bool, cond, _&&_}
+use mathlib.Core.Path.{_≡_}
 use mathlib.Core.List.{List, [], _∷_, _++_}
 use lib.Dec.{ltb, leb, eqb}
 use lib.ListN.{length, take, drop, replicate, set}
+use Rattle.numbers.specs.Numbers.{longAt}
 use Rattle.flash.specs.declared.Reach.{Reach}
 use Rattle.flash.specs.declared.Found.{Found}
 
@@ -73,6 +75,16 @@ firstIn at (b ∷ bs) = cond (eqb b erasedByte) (firstIn (at + 1) bs) (Found.At 
 -- the first byte that is not erased among the n bytes from block first on
 unfoldable pub searched : List ℕ → ℕ → ℕ → Found
 searched flash first n = firstIn (startOf first) (range flash (startOf first) n)
+
+-- the eight bytes from address at on as one number, low byte first
+abbrev pub eightAt : List ℕ → ℕ → ℕ
+eightAt flash at = longAt flash at + longAt flash (at + 4) * 2 ^ 32
+
+-- how far a search on its way from address at to stop may pass over bytes at once: to address next, if all from at up to it are erased
+pub record Passed (flash : List ℕ) (at stop next : ℕ) : Type 0 where
+  pub low : at ≤ next
+  pub high : next ≤ stop
+  pub over : range flash at (next - at) ≡ blank (next - at)
 
 -- one store of a byte
 pub record Store : Type 0 where

@@ -1,16 +1,22 @@
 // A flash of blocks, lent as a slice of bytes: where a block begins, the one store, erase, program, and the search for a byte
 // that is not erased. How many blocks there are is the caller's to know; a range has to lie in the slice.
-ghost use Prim.Native.Nat.{_<_, _^_};
+ghost use Prim.Native.Nat.{_+_, _<_, _≤_, _^_};
 ghost use mathlib.Core.Path.{_≡_};
 ghost use lib.ListN.{length, set};
 ghost use Rattle.flash.specs.Flash.{startOf, reachOf, liesIn, endsAt, holderOf, Within};
-ghost use Rattle.flash.specs.Flash.{blank, spliced, erased, range, firstIn, searched};
+ghost use Rattle.flash.specs.Flash.{blank, spliced, erased, range, firstIn, searched, eightAt, Passed};
 
 // The bytes of a block.
 pub const BLOCK: u32 = 1024;
 
 // What a byte of flash holds once it is erased.
 pub const ERASED: u8 = 0xFF;
+
+// The bytes that the search judges together.
+const EIGHT: u32 = 8;
+
+// The number that eight erased bytes make.
+const ALL_ERASED: u64 = 0xFFFF_FFFF_FFFF_FFFF;
 
 // A block's number, counted from the start of flash.
 #[repr(C)]
@@ -130,7 +136,34 @@ pub fn erase(flash: &mut [u8], first: Block, count: u32)
     wipe(flash, first.start(), count * BLOCK);
 }
 
-// The walk over blocks and the walk over a block's bytes are left together, at the first byte that is not erased.
+// The eight bytes from `at` on as one number, low byte first.
+fn eight(flash: &[u8], at: Addr) -> u64
+    requires { ⌜ at .0 + 8 ≤ length (now flash) ⌝ }
+    ensures { λ r. ⌜ r ≡ eightAt (now (flash .entry)) (at .0) ⌝ }
+{
+    let i = at.0 as usize;
+    (numbers::long(flash, i) as u64) + (numbers::long(flash, i + 4) as u64) * 0x1_0000_0000
+}
+
+// How far flash is erased on the way from one address to another, eight bytes at a time: to the eight that aren't all erased, or to
+// where fewer are left.
+fn past_eights(flash: &[u8], from: Addr, to: Addr) -> Addr
+    requires { ⌜ (from .0 ≤ to .0) × (to .0 ≤ length (now flash)) ⌝ }
+    ensures { λ r. ⌜ Passed (now (flash .entry)) (from .0) (to .0) (r .0) ⌝ }
+{
+    let mut at = from.0;
+    let stop = to.0;
+    while EIGHT <= stop - at {
+        if eight(flash, Addr(at)) != ALL_ERASED {
+            break;
+        }
+        at += EIGHT;
+    }
+    Addr(at)
+}
+
+// The walk over blocks and the walk over a block's bytes are left together, at the first byte that is not erased. Eight bytes at a time
+// are quicker passed over, but which of them it is only a single one can tell.
 fn search_from(flash: &[u8], from: Addr, n: u32) -> Found
     requires { ⌜ Within (now flash) (from .0) n ⌝ }
     ensures { λ r. ⌜ r ≡ firstIn (from .0) (range (now (flash .entry)) (from .0) n) ⌝ }
@@ -143,6 +176,7 @@ fn search_from(flash: &[u8], from: Addr, n: u32) -> Found
         if BLOCK < end - at {
             stop = at + BLOCK;
         }
+        at = past_eights(flash, Addr(at), Addr(stop)).0;
         while at < stop {
             if flash[at as usize] != ERASED {
                 found = Found::At(Addr(at));

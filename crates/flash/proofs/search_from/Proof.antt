@@ -1,17 +1,18 @@
--- Both loops keep that what is left of the range holds the answer (Unerased); the label is left at the first byte that is not erased.
+-- Both loops keep that what is left of the range holds the answer (Unerased), also behind what is passed over eight bytes at a time; the
+-- label is left at the first byte that is not erased.
 -- Assumes nothing.
-use Prim.Native.Nat.{_+_, _-_, _≤_, _<_}
+use Prim.Native.Nat.{_+_, _-_, _≤_}
 use mathlib.Core.Path.{_≡_, refl, _∙_}
 use mathlib.Core.Logic.{⊎-elim}
 use native.Mathlib.Omega.{arith}
 use Rattle.flash.specs.declared.Found.{Found}
-use Rattle.flash.proofs.Unerased.{Ahead, ahead-from, ahead-one, ahead-found, ahead-none}
+use Rattle.flash.proofs.Unerased.{Ahead, ahead-from, ahead-one, ahead-passed, ahead-found, ahead-none}
 use Rattle.flash.proofs.search_from.Statement.{statement}
 use Rattle.flash.proofs.search_from.Tie as tie
 
 abbrev Inv-loop : tie.InvT-loop
 Inv-loop flash n at₀ end found₀ stop at found =
-    (found ≡ Found.Nothing) × (at₀ < stop) × (at ≤ stop) × (stop ≤ end) × Ahead flash (end - n) n at
+    (found ≡ Found.Nothing) × (at ≤ stop) × (stop ≤ end) × Ahead flash (end - n) n at
 
 abbrev μ-loop : tie.MeasureT-loop
 μ-loop flash n at₀ end found₀ stop at found = stop - at
@@ -34,21 +35,26 @@ sub-if1 c = omega arith
 add-stop : tie.Need-add-stop Inv-loop μ-loop Inv-search μ-search
 add-stop c = omega arith
 
+past-eights-requires : tie.Need-past-eights-requires Inv-loop μ-loop Inv-search μ-search
+past-eights-requires c κs = ⊎-elim (λ w. (omega arith, omega arith)) (λ w. (omega arith, omega arith)) (c .if1 .came)
+
 loop-holds : tie.Need-loop-holds Inv-loop μ-loop Inv-search μ-search
 loop-holds c =
-    let a = c .before .before .search .inv in (
-      a .0,
-      ⊎-elim (λ w. omega arith) (λ w. omega arith) (c .if1 .came),
-      ⊎-elim (λ w. omega arith) (λ w. omega arith) (c .if1 .came),
-      ⊎-elim (λ w. omega arith) (λ w. omega arith) (c .if1 .came),
-      a .1,
+    let walk = c .before .before .before in
+    let a = walk .before .before .args in
+    let p = c .past-eights .ensures in
+    let within : c .before .if1 .stop ≤ a .from .0 + a .n = ⊎-elim (λ w. omega arith) (λ w. omega arith) (c .before .if1 .came) in (
+      walk .search .inv .0,
+      p .high,
+      within,
+      ahead-passed (a .flash .now) _ (a .n) (omega arith) _ _ _ (omega (arith, within)) p (walk .search .inv .1),
     )
 
 search-less : tie.Need-search-less Inv-loop μ-loop Inv-search μ-search
-search-less c = omega arith
+search-less c = ⊎-elim (λ w. omega arith) (λ w. omega arith) (c .before .before .before .if1 .came)
 
 search-again : tie.Need-search-again Inv-loop μ-loop Inv-search μ-search
-search-again c = (c .before .loop .inv .0, c .before .loop .inv .4)
+search-again c = (c .before .loop .inv .0, c .before .loop .inv .3)
 
 cast-if2 : tie.Need-cast-if2 Inv-loop μ-loop Inv-search μ-search
 cast-if2 c = omega arith
@@ -66,18 +72,17 @@ loop-again : tie.Need-loop-again Inv-loop μ-loop Inv-search μ-search
 loop-again c =
     let turn = c .before .before .before in
     let l = turn .loop in
-    let s = turn .before .before .before .before in (
+    let a = turn .before .before .before .before .before .before .args in (
       l .inv .0,
-      l .inv .1,
       omega arith,
-      l .inv .3,
-      ahead-one (s .args .flash .now) _ (s .args .n) (omega arith) (l .at) (omega arith) (c .if2 .left) (l .inv .4),
+      l .inv .2,
+      ahead-one (a .flash .now) _ (a .n) (omega arith) (l .at) (omega arith) (c .if2 .left) (l .inv .3),
     )
 
 returns : tie.Need-returns Inv-loop μ-loop Inv-search μ-search
 returns c =
     let l = c .before .search in
-    let a = c .before .before .args in
+    let a = c .before .before .before .args in
     let n = a .n in
     let from = a .from .0 in
     l .inv .0
@@ -87,12 +92,12 @@ returns-2 : tie.Need-returns-2 Inv-loop μ-loop Inv-search μ-search
 returns-2 c =
     let turn = c .before .before .before in
     let l = turn .loop in
-    let a = turn .before .before .before .before .args in
+    let a = turn .before .before .before .before .before .before .args in
     let n = a .n in
     let from = a .from .0 in
     ahead-found (a .flash .now) (from + n - n) n (omega arith) from (omega arith) (l .at) (omega arith)
     (c .if2 .taken)
-    (l .inv .4)
+    (l .inv .3)
 
 pub search-from-spec : {M : Type 1} → statement M
 search-from-spec =
@@ -106,6 +111,7 @@ search-from-spec =
     search-holds
     sub-if1
     add-stop
+    past-eights-requires
     loop-holds
     search-less
     search-again
