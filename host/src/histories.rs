@@ -3,6 +3,7 @@
 //! alone, so that any of them can be repeated by itself.
 
 use crate::dice::Dice;
+use crate::lone;
 use crate::requests::{any_request, choose};
 use crate::second::{answer, start, step, Outcome, Session, BLOCK, ERASED, MOST_BLOCKS, TRANSFER};
 use crate::sessions;
@@ -220,7 +221,8 @@ fn some_flash(dice: &mut Dice, a: u32, b: u32) -> Vec<u8> {
         flash[..start].copy_from_slice(&dice.bytes(a * BLOCK));
         flash[start..end].fill(ERASED);
         let from_end = [2 * BLOCK, (b - a) * BLOCK][dice.below(2) as usize];
-        flash[end - 1 - dice.below(from_end.min((b - a) * BLOCK)) as usize] = 0x7F;
+        let place = end - 1 - dice.below(from_end.min((b - a) * BLOCK)) as usize;
+        flash[place] = lone::byte(dice);
         return flash;
     }
     let erased_in_four = [0, 2, 3, 4][dice.below(4) as usize];
@@ -233,8 +235,7 @@ fn some_flash(dice: &mut Dice, a: u32, b: u32) -> Vec<u8> {
             false => bytes.copy_from_slice(&dice.bytes(BLOCK)),
         }
         if erased && dice.below(6) == 0 {
-            let lone = [0, 1, 1_022, 1_023, dice.below(BLOCK) as usize];
-            bytes[lone[dice.below(5) as usize]] = 0x7F;
+            bytes[lone::place(dice) as usize] = lone::byte(dice);
         }
     }
     flash

@@ -8,6 +8,7 @@ pub mod dice;
 pub mod histories;
 pub mod layout;
 pub mod lent;
+pub mod lone;
 pub mod requests;
 pub mod rows;
 pub mod second;

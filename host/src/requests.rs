@@ -2,6 +2,7 @@
 //! more often than not its state takes them.
 
 use crate::dice::Dice;
+use crate::lone;
 use crate::second::{command, state, Session, BLOCK, ERASED, INFO_STREAM};
 use crate::tape::{header, setup, QUERY};
 
@@ -198,7 +199,15 @@ fn piece(dice: &mut Dice, left: u32) -> Vec<u8> {
         2..=6 => dice.below(most + 1),
         _ => most,
     };
-    dice.bytes(length)
+    some_data(dice, length)
+}
+
+/// What is written: anything, or bytes that leave the flash erased but for one.
+fn some_data(dice: &mut Dice, length: u32) -> Vec<u8> {
+    match dice.below(4) {
+        0 => lone::data(dice, length),
+        _ => dice.bytes(length),
+    }
 }
 
 /// A command, now and then good but for its length: cut short, or with bytes
@@ -220,7 +229,7 @@ fn a_command(dice: &mut Dice, session: &Session, flash: &[u8]) -> Vec<u8> {
 
 fn whole_command(dice: &mut Dice, session: &Session, flash: &[u8]) -> Vec<u8> {
     let (block, count) = blocks(dice, session);
-    match dice.below(20) {
+    match dice.below(23) {
         0..=3 => header(command::ERASE, block, count).to_vec(),
         4..=11 => prog(dice, session, flash),
         12..=13 => ranged(dice, session, command::READ),
@@ -238,6 +247,8 @@ fn whole_command(dice: &mut Dice, session: &Session, flash: &[u8]) -> Vec<u8> {
             6,
         ],
         18 => header(command::RESET, block, count).to_vec(),
+        19 => near_a_lone_byte(dice, session, flash, command::PROG),
+        20..=21 => near_a_lone_byte(dice, session, flash, command::CHECK),
         _ => {
             let unknown = [0, 8, 9, 255, dice.below(256) as u8];
             header(unknown[dice.below(5) as usize], block, count).to_vec()
@@ -311,9 +322,9 @@ fn erased_run(dice: &mut Dice, session: &Session, flash: &[u8]) -> Option<(u16, 
 
 fn check_erased(dice: &mut Dice, session: &Session, flash: &[u8]) -> Vec<u8> {
     match (dice.below(4), erased_run(dice, session, flash)) {
-        (0, _) => around_a_lone_byte(dice, session, flash, command::CHECK),
-        (1..=2, _) => up_to_the_first(dice, session, flash, command::CHECK),
-        (_, Some((block, run))) => header(command::CHECK, block, run + dice.below(2)).to_vec(),
+        (0..=1, _) => up_to_the_first(dice, session, flash, command::CHECK),
+        (2, Some((block, run))) => header(command::CHECK, block, run + dice.below(2)).to_vec(),
+        (_, Some((block, _))) => header(command::CHECK, block, 1 + dice.below(8)).to_vec(),
         _ => ranged(dice, session, command::CHECK),
     }
 }
@@ -328,22 +339,19 @@ fn up_to_the_first(dice: &mut Dice, session: &Session, flash: &[u8], number: u8)
     header(number, block as u16, length).to_vec()
 }
 
-/// A range over the first block, from a random one on, of which one byte alone
-/// is not erased: up to that byte, with it, or the whole block.
-fn around_a_lone_byte(dice: &mut Dice, session: &Session, flash: &[u8], number: u8) -> Vec<u8> {
-    let from = session.a + dice.below(session.b - session.a);
-    let lone = (from..session.b).find_map(|block| {
-        let place = (block * BLOCK) as usize;
-        let bytes = &flash[place..place + BLOCK as usize];
-        let mut dirty = (0..BLOCK).filter(|at| bytes[*at as usize] != ERASED);
-        let first = dirty.next()?;
-        dirty.next().is_none().then_some((block, first))
-    });
-    let Some((block, at)) = lone else {
-        return ranged(dice, session, number);
-    };
-    let length = [at, at + 1, BLOCK][dice.below(3) as usize];
-    header(number, block as u16, length.max(1)).to_vec()
+/// A range that ends near a byte which alone is not erased. Where there is no
+/// such byte, one is written at times.
+fn near_a_lone_byte(dice: &mut Dice, session: &Session, flash: &[u8], number: u8) -> Vec<u8> {
+    if let Some((block, length)) = lone::range(dice, session, flash) {
+        return header(number, block as u16, length).to_vec();
+    }
+    match (dice.below(2), erased_run(dice, session, flash)) {
+        (0, Some((block, _))) => {
+            let data = lone::data(dice, 1_016);
+            [&header(command::PROG, block, 1_016), &data[..]].concat()
+        }
+        _ => up_to_the_first(dice, session, flash, number),
+    }
 }
 
 /// A PROG over erased flash where there is some, with first data that fits
@@ -352,7 +360,7 @@ fn prog(dice: &mut Dice, session: &Session, flash: &[u8]) -> Vec<u8> {
     let run = erased_run(dice, session, flash);
     let (block, run) = match (dice.below(18), run) {
         (3.., Some(found)) => found,
-        (2, _) => return around_a_lone_byte(dice, session, flash, command::PROG),
+        (2, _) => return near_a_lone_byte(dice, session, flash, command::PROG),
         (1, _) => return up_to_the_first(dice, session, flash, command::PROG),
         _ => return prog_anywhere(dice, session),
     };
@@ -369,7 +377,7 @@ fn prog(dice: &mut Dice, session: &Session, flash: &[u8]) -> Vec<u8> {
     };
     [
         header(command::PROG, block, length).to_vec(),
-        dice.bytes(first),
+        some_data(dice, first),
     ]
     .concat()
 }

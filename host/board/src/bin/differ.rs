@@ -6,6 +6,8 @@
 mod commands;
 #[path = "differ/compare.rs"]
 mod compare;
+#[path = "differ/eights.rs"]
+mod eights;
 #[path = "differ/pieces.rs"]
 mod pieces;
 #[path = "differ/rows.rs"]
@@ -34,7 +36,7 @@ differ [--seed N] [--first N] [--requests N | --soak] [--rows]
   --first N     the number of the first history (default 0)
   --requests N  stop after the history in which the Nth request falls (default 450000)
   --soak        go on until stopped, with a line of progress each second
-  --rows        say how often each row of the paper was met";
+  --rows        say how often each row was met";
 
 struct Asked {
     seed: u64,

@@ -14,12 +14,13 @@ impl Rows {
         self.too_much();
         for (number, name) in [(command::PROG, "PROG"), (command::CHECK, "CHECK")] {
             self.erased(number, name);
+            self.eights(number, name);
         }
         self.done();
         self.done_by_commands();
     }
 
-    fn command(
+    pub fn command(
         &mut self,
         name: impl Into<String>,
         holds: impl Fn(&Seen, &Command) -> bool + 'static,
@@ -92,7 +93,7 @@ impl Rows {
         });
     }
 
-    /// Status 05, and how near to it a range may come.
+    /// Status 05. How near to it a range may come, `eights` has.
     fn erased(&mut self, number: u8, name: &str) {
         let faulted = move |seen: &Seen, command: &Command| {
             seen.faulted(status::NOT_ERASED) && command.is(number)
@@ -107,11 +108,6 @@ impl Rows {
         self.command(last, move |seen, command| {
             let rest = command.range().start..command.range().end - 1;
             faulted(seen, command) && seen.dirty(rest) == 0
-        });
-        let next = format!("{name} taken, the next byte not erased");
-        self.command(next, move |seen, command| {
-            let taken = seen.answered(answer::TAKEN) && command.is(number);
-            taken && seen.dirty(command.range().end..command.range().end + 1) == 1
         });
     }
 

@@ -7,11 +7,17 @@ use mullirim_host::comparison::{same, same_bytes, Same};
 use mullirim_host::histories::{Call, History, Start, REPLY_ROOM};
 use mullirim_host::second;
 
+/// What lies before the flash that is lent.
+const BEFORE: [u8; 7] = [0x5A; 7];
+
 pub struct Pair {
     history: History,
     /// The proved loader's own flash and reply. They live on from call to
-    /// call, so that a byte astray is seen at once and stays seen.
+    /// call, so that a byte astray is seen at once and stays seen. The flash
+    /// is moved by up to seven bytes, so that it doesn't always lie as the
+    /// allocator likes.
     flash: Vec<u8>,
+    moved: usize,
     reply: [u8; REPLY_ROOM],
     awaited: [u8; REPLY_ROOM],
 }
@@ -19,8 +25,11 @@ pub struct Pair {
 impl Pair {
     pub fn new(seed: u64, number: u64) -> Pair {
         let history = History::new(seed, number);
+        // Every second history is wild: so either kind is moved by each number.
+        let moved = (number / 2 % 8) as usize;
         Pair {
-            flash: history.flash.clone(),
+            flash: [&BEFORE[..moved], &history.flash].concat(),
+            moved,
             history,
             reply: [0xEE; REPLY_ROOM],
             awaited: [0xEE; REPLY_ROOM],
@@ -40,18 +49,18 @@ impl Pair {
     }
 
     fn start(&mut self, call: &Start, tally: &mut Tally) -> Same {
-        let lent = &self.flash[..call.lent];
+        let lent = &self.flash[self.moved..][..call.lent];
         let started = start(lent, call.a, call.b, call.part0, call.part1);
         let answer = self.history.begin(call);
         tally.start(call, answer);
         same("start's answer", &started.code, &u32::from(answer))?;
         same_session(&started.session, &self.history.session)?;
-        same_bytes("flash", &self.flash, &self.history.flash)
+        self.same_flash()
     }
 
     fn call(&mut self, call: &Call, tally: &mut Tally) -> Same {
         let mut session = Session::from(&call.session);
-        let flash = &mut self.flash[..call.lent];
+        let flash = &mut self.flash[self.moved..][..call.lent];
         let reply = &mut self.reply[..call.room];
         let answer = request(&mut session, flash, &call.setup, &call.data, reply);
         let awaited = self.history.serve(call, &mut self.awaited);
@@ -59,10 +68,16 @@ impl Pair {
         same("answer", &answer.code, &u32::from(awaited.answer))?;
         same("count", &answer.count, &awaited.count)?;
         same_session(&session, &awaited.session)?;
-        same_bytes("flash", &self.flash, &self.history.flash)?;
+        self.same_flash()?;
         same_bytes("reply", &self.reply, &self.awaited)?;
         tally.agreed(&Seen::new(call, &awaited, &self.history.flash));
         Ok(())
+    }
+
+    fn same_flash(&self) -> Same {
+        let (before, flash) = self.flash.split_at(self.moved);
+        same_bytes("bytes before the flash", before, &BEFORE[..self.moved])?;
+        same_bytes("flash", flash, &self.history.flash)
     }
 }
 

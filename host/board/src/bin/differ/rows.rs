@@ -1,5 +1,6 @@
-//! The rows of the paper that a request can fall under, each with how often one
-//! did. A run that leaves a row out has compared too little.
+//! The rows that a request can fall under, those of the paper and those of the
+//! search, each with how often one did. A run that leaves a row out has compared
+//! too little.
 
 use crate::seen::{Form, Part, Seen, FORMS, STATES};
 use crate::unfit::{reasons, REASONS};

@@ -1,7 +1,8 @@
 //! One request as the rows look at it: taken apart, with what came of it.
 
+use crate::eights::Lone;
 use mullirim_host::histories::Call;
-use mullirim_host::second::{answer, state, Outcome, Session, BLOCK};
+use mullirim_host::second::{answer, state, status, Outcome, Session, BLOCK};
 use std::ops::{Range, RangeInclusive};
 
 /// A row of the paper's table of requests.
@@ -48,6 +49,8 @@ pub struct Seen<'a> {
     pub flash: &'a [u8],
     /// A DNLOAD of good form with some data in state 2.
     pub command: Option<Command<'a>>,
+    /// Where a range was not erased by one byte alone.
+    pub lone: Option<Lone>,
     /// The length of the data of a DNLOAD of good form in state 5.
     pub piece: Option<u32>,
     /// The bytes asked for by an UPLOAD that was taken.
@@ -61,6 +64,7 @@ impl<'a> Seen<'a> {
             outcome,
             flash,
             command: None,
+            lone: None,
             piece: None,
             upload: None,
         };
@@ -71,6 +75,10 @@ impl<'a> Seen<'a> {
         let piece = dnload && call.session.state == state::DOWN_IDLE;
         let upload = seen.formed(&FORMS[1]) && seen.answered(answer::TAKEN);
         seen.command = command.then_some(Command { bytes });
+        if seen.faulted(status::NOT_ERASED) {
+            let range = seen.command.as_ref().map(Command::range);
+            seen.lone = range.and_then(|range| Lone::new(flash, range));
+        }
         seen.piece = piece.then_some(bytes.len() as u32);
         seen.upload = upload.then_some(seen.length());
         seen

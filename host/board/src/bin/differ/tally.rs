@@ -54,7 +54,7 @@ impl Tally {
         self.rows.see(seen);
     }
 
-    /// Every row of the paper, with how often it was met.
+    /// Every row, with how often it was met.
     pub fn rows(&self) -> impl Iterator<Item = (String, u64)> + '_ {
         self.start_rows.counts().chain(self.rows.counts())
     }
@@ -82,7 +82,7 @@ impl fmt::Display for Tally {
         )?;
         write!(
             out,
-            "{} starts ({} refused, {} with A or B over 65,535) on {} splits. {} rows of the paper, each met. No difference.",
+            "{} starts ({} refused, {} with A or B over 65,535) on {} splits. {} rows, each met. No difference.",
             self.starts,
             self.refused_starts,
             self.wide_starts,

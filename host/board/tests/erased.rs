@@ -1,0 +1,200 @@
+//! The proved search for a byte that is not erased, swept place by place. What it
+//! must answer needs no second loader: a byte is found if it lies in the range.
+
+use mullirim_board::{request, start, Session};
+use mullirim_host::layout::{Download, Phase};
+use mullirim_host::second::{answer, command, state, status, BLOCK, ERASED};
+use mullirim_host::tape::{header, setup};
+
+const TAKEN: u32 = answer::TAKEN as u32;
+const FAULTED: u32 = answer::FAULTED as u32;
+/// The board: a block of loader and four of application.
+const FIRST: u32 = 1;
+const BLOCKS: u32 = 5;
+const FLASH: usize = (BLOCKS * BLOCK) as usize;
+/// How many bytes lie around the flash that is lent, on either side at least.
+const AROUND: usize = 32;
+
+/// A flash amid other bytes, lent at an address of our choice.
+struct Board {
+    memory: Vec<u8>,
+    /// Where in it the flash begins.
+    from: usize,
+    session: Session,
+}
+
+/// What a request comes to: the answer, and where the session stands.
+type Left = (u32, Phase, Download);
+
+/// A PROG or CHECK of so many bytes, from the start of a block on.
+#[derive(Clone, Copy, Debug)]
+struct Asked<'a> {
+    number: u8,
+    block: u32,
+    length: usize,
+    data: &'a [u8],
+}
+
+impl Asked<'_> {
+    fn start(&self) -> usize {
+        (self.block * BLOCK) as usize
+    }
+
+    /// What it comes to where the range is all erased, and where it is not.
+    fn awaited(&self, erased: bool) -> Left {
+        let phase = |state, status, after| Phase {
+            state,
+            status,
+            after,
+        };
+        let none = Download { place: 0, left: 0 };
+        let runs = Download {
+            place: (self.start() + self.data.len()) as u32,
+            left: (self.length - self.data.len()) as u32,
+        };
+        match (erased, self.number) {
+            (false, _) => (FAULTED, phase(state::ERROR, status::NOT_ERASED, 2), none),
+            (_, command::PROG) => (TAKEN, phase(state::DOWN_SYNC, 0, 5), runs),
+            _ => (TAKEN, phase(state::DOWN_SYNC, 0, 2), none),
+        }
+    }
+}
+
+impl Board {
+    /// All erased, the flash this many bytes behind a multiple of eight.
+    fn new(shift: usize) -> Board {
+        let memory = vec![ERASED; FLASH + 2 * AROUND + 16];
+        let from = AROUND + memory[AROUND..].as_ptr().align_offset(8) + shift;
+        let flash = &memory[from..from + FLASH];
+        assert_eq!(flash.as_ptr() as usize % 8, shift);
+        let started = start(flash, FIRST, BLOCKS, 0, 0);
+        assert_eq!(started.code, TAKEN);
+        Board {
+            memory,
+            from,
+            session: started.session,
+        }
+    }
+
+    /// Asks with the memory as it is, which then is put back, and the fresh
+    /// session, since no rule holds its sums to the flash. Only a PROG that is
+    /// taken may change a byte, or a sum: its first data lies in its place.
+    fn ask(&mut self, asked: &Asked) -> Left {
+        let head = header(asked.number, asked.block as u16, asked.length as u32);
+        let sent = [&head, asked.data].concat();
+        let setup = setup(0x21, 1, sent.len() as u16);
+        let (before, mut session) = (self.memory.clone(), self.session);
+        let flash = &mut self.memory[self.from..self.from + FLASH];
+        let answer = request(&mut session, flash, &setup, &sent, &mut [0; 1_024]);
+        let written = match answer.code == TAKEN {
+            true => asked.data,
+            false => &[],
+        };
+        if written.is_empty() {
+            assert_eq!(session.sums, self.session.sums, "{asked:?}");
+        }
+        let mut awaited = before.clone();
+        awaited[self.from + asked.start()..][..written.len()].copy_from_slice(written);
+        assert!(self.memory == awaited, "{asked:?}");
+        self.memory.copy_from_slice(&before);
+        (answer.code, session.phase, session.download)
+    }
+
+    /// Asks with one byte set, this far from the range's start.
+    fn ask_with(&mut self, asked: &Asked, place: isize, value: u8) {
+        let at = (self.from + asked.start()).wrapping_add_signed(place);
+        self.memory[at] = value;
+        let found = (0..asked.length as isize).contains(&place);
+        let awaited = asked.awaited(!found);
+        assert_eq!(
+            self.ask(asked),
+            awaited,
+            "{asked:?}, {value:02X} at {place}"
+        );
+        self.memory[at] = ERASED;
+    }
+
+    /// None, and then one byte at each place from one before the range to
+    /// sixteen behind it.
+    fn sweep(&mut self, asked: &Asked, value: u8) {
+        assert_eq!(self.ask(asked), asked.awaited(true), "{asked:?}");
+        for place in -1..=asked.length as isize + 16 {
+            self.ask_with(asked, place, value);
+        }
+    }
+}
+
+fn check(block: u32, length: usize) -> Asked<'static> {
+    Asked {
+        number: command::CHECK,
+        block,
+        length,
+        data: &[],
+    }
+}
+
+fn prog(length: usize, data: &[u8]) -> Asked<'_> {
+    Asked {
+        number: command::PROG,
+        block: 2,
+        length,
+        data,
+    }
+}
+
+/// Short ones, and those around one block and two.
+fn lengths() -> impl Iterator<Item = usize> {
+    (1..=40).chain(1_008..=1_040).chain(2_040..=2_056)
+}
+
+/// Tries a board at each of the eight alignments.
+fn at_each_alignment(tried: impl Fn(&mut Board)) {
+    for shift in 0..8 {
+        tried(&mut Board::new(shift));
+    }
+}
+
+#[test]
+fn a_check_finds_a_byte_at_each_place() {
+    at_each_alignment(|board| lengths().for_each(|length| board.sweep(&check(2, length), 0x7F)));
+}
+
+/// Before the range lies the loader, and behind it what is not lent at all.
+#[test]
+fn a_check_of_the_application_goes_no_further() {
+    let all = FLASH - (FIRST * BLOCK) as usize;
+    at_each_alignment(|board| {
+        (all - 8..=all).for_each(|length| board.sweep(&check(FIRST, length), 0x7F));
+    });
+}
+
+#[test]
+fn a_check_finds_every_value_at_each_place_of_an_eight_and_behind() {
+    let asked = check(2, 23);
+    at_each_alignment(|board| (0..ERASED).for_each(|value| board.sweep(&asked, value)));
+}
+
+#[test]
+fn a_check_looks_at_nothing_but_its_range() {
+    at_each_alignment(|board| {
+        board.memory.fill(0);
+        let from = board.from + 2 * BLOCK as usize;
+        for length in lengths() {
+            let asked = check(2, length);
+            board.memory[from..from + length].fill(ERASED);
+            assert_eq!(board.ask(&asked), asked.awaited(true));
+            let more = check(2, length + 1);
+            assert_eq!(board.ask(&more), more.awaited(false));
+        }
+    });
+}
+
+#[test]
+fn a_prog_finds_a_byte_at_each_place() {
+    at_each_alignment(|board| {
+        for length in (1..=40).chain(1_020..=1_028) {
+            board.sweep(&prog(length, &[]), 0xFE);
+            board.sweep(&prog(length, &vec![0x31; length.min(1_016)]), 0);
+        }
+    });
+}
