@@ -1,13 +1,25 @@
-//! CHECK over an erased application: the search for a byte that isn't 0xFF.
+//! CHECK of the application: the search for a byte that isn't 0xFF, over all of
+//! it where it is erased, and up to such a byte in its first block.
 
 use super::clock::{race, Side};
 use super::{agree, dnload, started, Compared, APPLICATION, BLOCK, FIRST, FLASH};
 use mullirim_board::Session;
-use mullirim_host::second::{command, ERASED};
-use mullirim_host::tape::header;
+use mullirim_host::second::{self, command, ERASED, TRANSFER};
+use mullirim_host::tape::{header, setup};
 use std::hint::black_box;
 
+/// The first byte of a block, the last of its first eight, and the last of all.
+const PLACES: [usize; 3] = [0, 7, BLOCK - 1];
+
 pub fn compare() -> Compared {
+    let mut rows = over_all()?;
+    for place in PLACES {
+        rows.extend(up_to(place)?);
+    }
+    Ok(rows)
+}
+
+fn over_all() -> Compared {
     let mut flash = vec![ERASED; FLASH];
     agree("CHECK of erased flash", same(&mut flash, true))?;
     flash[FLASH - 1] = 0;
@@ -32,6 +44,28 @@ pub fn compare() -> Compared {
     Ok(race(&what, sides))
 }
 
+/// A search this short is little beside the request that asks for it, so the
+/// whole request is set beside the second loader's.
+fn up_to(place: usize) -> Compared {
+    let mut flash = vec![ERASED; FLASH];
+    flash[APPLICATION.start + place] = 0;
+    let mut second_flash = flash.clone();
+    let session = started(&flash);
+    let second = second::Session::from(&session);
+    let mut ours = || {
+        let mut session = session;
+        check(&mut session, &mut flash)
+    };
+    let mut theirs = || second_check(&second, &mut second_flash);
+    let what = format!("CHECK, byte {place} found");
+    agree(&what, !ours() && !theirs())?;
+    let sides = vec![
+        Side::steady("ours", ours),
+        Side::steady("second loader", theirs),
+    ];
+    Ok(race(&what, sides))
+}
+
 /// Whether all four find the flash erased, or all four don't.
 fn same(flash: &mut [u8], erased: bool) -> bool {
     let ours = check(&mut started(flash), flash);
@@ -45,8 +79,18 @@ fn same(flash: &mut [u8], erased: bool) -> bool {
 
 /// Whether a CHECK of the whole application is taken; else it faulted.
 fn check(session: &mut Session, flash: &mut [u8]) -> bool {
-    let all = header(command::CHECK, FIRST, APPLICATION.len() as u32);
-    dnload(session, flash, &all).code == 0
+    dnload(session, flash, black_box(&asked())).code == 0
+}
+
+/// The same by the second loader.
+fn second_check(session: &second::Session, flash: &mut [u8]) -> bool {
+    let asked = black_box(asked());
+    let setup = setup(0x21, 1, asked.len() as u16);
+    second::step(session, flash, &setup, &asked, &mut [0; TRANSFER]).answer == 0
+}
+
+fn asked() -> [u8; 8] {
+    header(command::CHECK, FIRST, APPLICATION.len() as u32)
 }
 
 fn all(bytes: &[u8]) -> bool {
@@ -80,5 +124,17 @@ mod tests {
         }
         flash[APPLICATION.start - 1] = 0;
         assert!(same(&mut flash, true));
+    }
+
+    #[test]
+    fn the_second_loader_finds_a_byte_too() {
+        let mut flash = vec![ERASED; FLASH];
+        let session = second::Session::from(&started(&flash));
+        assert!(second_check(&session, &mut flash));
+        for place in PLACES {
+            flash[APPLICATION.start + place] = 0xFE;
+            assert!(!second_check(&session, &mut flash));
+            flash[APPLICATION.start + place] = ERASED;
+        }
     }
 }
