@@ -64,11 +64,11 @@ module _ (f : List ℕ) (byte : (k : ℕ) → getD f k 0 < 256) where
       (four-blank (at + 4) (omega arith) (omega (arith, low, high)))
 
   pub passed-eight :
-      (at stop next : ℕ) → stop ≤ length f → next + 8 ≤ stop → eightAt f next ≡ 2 ^ 64 - 1 → Passed f at stop next
-      → Passed f at stop (next + 8)
-  passed-eight at stop next h le e p =
+      (at stop next to : ℕ) → stop ≤ length f → to ≤ stop → next + 8 ≡ to → eightAt f next ≡ 2 ^ 64 - 1 → Passed f at stop next
+      → Passed f at stop to
+  passed-eight at stop next to h le e8 e p =
       let here : at + (next - at) ≡ next = omega (arith, p .low) in
-      let long : next + 8 - at ≡ next - at + 8 = omega (arith, p .low) in
+      let long : to - at ≡ next - at + 8 = omega (arith, p .low) in
       let eight : range f (at + (next - at)) 8 ≡ blank 8 = rw here (eight-blank next (omega arith) e) in
       record { low = omega (arith, p .low); high = le; over = rw long (blank-more f at (next - at) 8 (p .over) eight) }
 

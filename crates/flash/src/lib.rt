@@ -13,7 +13,10 @@ pub const BLOCK: u32 = 1024;
 pub const ERASED: u8 = 0xFF;
 
 // The bytes that the search judges together.
-const EIGHT: u32 = 8;
+const EIGHT: usize = 8;
+
+// Two such eights.
+const PAIR: usize = 16;
 
 // The number that eight erased bytes make.
 const ALL_ERASED: u64 = 0xFFFF_FFFF_FFFF_FFFF;
@@ -136,30 +139,37 @@ pub fn erase(flash: &mut [u8], first: Block, count: u32)
     wipe(flash, first.start(), count * BLOCK);
 }
 
-// The eight bytes from `at` on as one number, low byte first.
-fn eight(flash: &[u8], at: Addr) -> u64
-    requires { ⌜ at .0 + 8 ≤ length (now flash) ⌝ }
-    ensures { λ r. ⌜ r ≡ eightAt (now (flash .entry)) (at .0) ⌝ }
+// The eight bytes from place i on as one number, low byte first.
+fn eight(flash: &[u8], i: usize) -> u64
+    requires { ⌜ i + 8 ≤ length (now flash) ⌝ }
+    ensures { λ r. ⌜ r ≡ eightAt (now (flash .entry)) i ⌝ }
 {
-    let i = at.0 as usize;
     (numbers::long(flash, i) as u64) + (numbers::long(flash, i + 4) as u64) * 0x1_0000_0000
 }
 
-// How far flash is erased on the way from one address to another, eight bytes at a time: to the eight that aren't all erased, or to
-// where fewer are left.
-fn past_eights(flash: &[u8], from: Addr, to: Addr) -> Addr
-    requires { ⌜ (from .0 ≤ to .0) × (to .0 ≤ length (now flash)) ⌝ }
-    ensures { λ r. ⌜ Passed (now (flash .entry)) (from .0) (to .0) (r .0) ⌝ }
+// How far flash is erased on the way from one place to another, eight bytes at a time: to the eight that aren't all erased, or to where
+// fewer are left. A turn judges two eights, one after the other, since with one the counting costs more than the judging.
+fn past_eights(flash: &[u8], from: usize, to: usize) -> usize
+    requires { ⌜ (from ≤ to) × Within (now flash) 0 to ⌝ }
+    ensures { λ r. ⌜ Passed (now (flash .entry)) from to r ⌝ }
 {
-    let mut at = from.0;
-    let stop = to.0;
-    while EIGHT <= stop - at {
-        if eight(flash, Addr(at)) != ALL_ERASED {
-            break;
+    let mut at = from;
+    while at + PAIR <= to {
+        if eight(flash, at) != ALL_ERASED {
+            return at;
         }
-        at += EIGHT;
+        if eight(flash, at + EIGHT) != ALL_ERASED {
+            return at + EIGHT;
+        }
+        at += PAIR;
     }
-    Addr(at)
+    if to < at + EIGHT {
+        return at;
+    }
+    if eight(flash, at) != ALL_ERASED {
+        return at;
+    }
+    at + EIGHT
 }
 
 // The walk over blocks and the walk over a block's bytes are left together, at the first byte that is not erased. Eight bytes at a time
@@ -176,7 +186,7 @@ fn search_from(flash: &[u8], from: Addr, n: u32) -> Found
         if BLOCK < end - at {
             stop = at + BLOCK;
         }
-        at = past_eights(flash, Addr(at), Addr(stop)).0;
+        at = past_eights(flash, at as usize, stop as usize) as u32;
         while at < stop {
             if flash[at as usize] != ERASED {
                 found = Found::At(Addr(at));

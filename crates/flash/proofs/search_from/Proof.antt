@@ -35,15 +35,22 @@ sub-if1 c = omega arith
 add-stop : tie.Need-add-stop Inv-loop μ-loop Inv-search μ-search
 add-stop c = omega arith
 
+cast-past-eights : tie.Need-cast-past-eights Inv-loop μ-loop Inv-search μ-search
+cast-past-eights c = omega arith
+
 past-eights-requires : tie.Need-past-eights-requires Inv-loop μ-loop Inv-search μ-search
-past-eights-requires c κs = ⊎-elim (λ w. (omega arith, omega arith)) (λ w. (omega arith, omega arith)) (c .if1 .came)
+past-eights-requires c κs = ⊎-elim (λ w. (omega arith, omega arith)) (λ w. (omega arith, omega arith)) (c .before .if1 .came)
+
+cast-at : tie.Need-cast-at Inv-loop μ-loop Inv-search μ-search
+cast-at c = ⊎-elim (λ w. omega arith) (λ w. omega arith) (c .before .before .if1 .came)
 
 loop-holds : tie.Need-loop-holds Inv-loop μ-loop Inv-search μ-search
 loop-holds c =
-    let walk = c .before .before .before in
+    let split = c .before .before in
+    let walk = split .before .before in
     let a = walk .before .before .args in
     let p = c .past-eights .ensures in
-    let within : c .before .if1 .stop ≤ a .from .0 + a .n = ⊎-elim (λ w. omega arith) (λ w. omega arith) (c .before .if1 .came) in (
+    let within : split .if1 .stop ≤ a .from .0 + a .n = ⊎-elim (λ w. omega arith) (λ w. omega arith) (split .if1 .came) in (
       walk .search .inv .0,
       p .high,
       within,
@@ -51,7 +58,7 @@ loop-holds c =
     )
 
 search-less : tie.Need-search-less Inv-loop μ-loop Inv-search μ-search
-search-less c = ⊎-elim (λ w. omega arith) (λ w. omega arith) (c .before .before .before .if1 .came)
+search-less c = ⊎-elim (λ w. omega arith) (λ w. omega arith) (c .before .before .before .before .if1 .came)
 
 search-again : tie.Need-search-again Inv-loop μ-loop Inv-search μ-search
 search-again c = (c .before .loop .inv .0, c .before .loop .inv .3)
@@ -72,7 +79,7 @@ loop-again : tie.Need-loop-again Inv-loop μ-loop Inv-search μ-search
 loop-again c =
     let turn = c .before .before .before in
     let l = turn .loop in
-    let a = turn .before .before .before .before .before .before .args in (
+    let a = turn .before .before .before .before .before .before .before .args in (
       l .inv .0,
       omega arith,
       l .inv .2,
@@ -92,7 +99,7 @@ returns-2 : tie.Need-returns-2 Inv-loop μ-loop Inv-search μ-search
 returns-2 c =
     let turn = c .before .before .before in
     let l = turn .loop in
-    let a = turn .before .before .before .before .before .before .args in
+    let a = turn .before .before .before .before .before .before .before .args in
     let n = a .n in
     let from = a .from .0 in
     ahead-found (a .flash .now) (from + n - n) n (omega arith) from (omega arith) (l .at) (omega arith)
@@ -111,7 +118,9 @@ search-from-spec =
     search-holds
     sub-if1
     add-stop
+    cast-past-eights
     past-eights-requires
+    cast-at
     loop-holds
     search-less
     search-again
