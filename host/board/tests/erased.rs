@@ -144,7 +144,7 @@ fn prog(length: usize, data: &[u8]) -> Asked<'_> {
 
 /// Short ones, and those around one block and two.
 fn lengths() -> impl Iterator<Item = usize> {
-    (1..=40).chain(1_008..=1_040).chain(2_040..=2_056)
+    (1..=40).chain(1_008..=1_040).chain(2_040..=2_064)
 }
 
 /// Tries a board at each of the eight alignments.
@@ -164,13 +164,13 @@ fn a_check_finds_a_byte_at_each_place() {
 fn a_check_of_the_application_goes_no_further() {
     let all = FLASH - (FIRST * BLOCK) as usize;
     at_each_alignment(|board| {
-        (all - 8..=all).for_each(|length| board.sweep(&check(FIRST, length), 0x7F));
+        (all - 16..=all).for_each(|length| board.sweep(&check(FIRST, length), 0x7F));
     });
 }
 
 #[test]
-fn a_check_finds_every_value_at_each_place_of_an_eight_and_behind() {
-    let asked = check(2, 23);
+fn a_check_finds_every_value_at_each_place_of_three_eights_and_behind() {
+    let asked = check(2, 31);
     at_each_alignment(|board| (0..ERASED).for_each(|value| board.sweep(&asked, value)));
 }
 
@@ -192,7 +192,7 @@ fn a_check_looks_at_nothing_but_its_range() {
 #[test]
 fn a_prog_finds_a_byte_at_each_place() {
     at_each_alignment(|board| {
-        for length in (1..=40).chain(1_020..=1_028) {
+        for length in (1..=40).chain(1_020..=1_040) {
             board.sweep(&prog(length, &[]), 0xFE);
             board.sweep(&prog(length, &vec![0x31; length.min(1_016)]), 0);
         }

@@ -122,12 +122,12 @@ mod tests {
     }
 
     #[test]
-    fn two_thousand_requests_agree_and_meet_most() {
+    fn four_thousand_requests_agree_and_meet_most() {
         let mut tally = Tally::new();
-        for number in 0..20 {
+        for number in 0..40 {
             assert_eq!(Pair::new(3, number).play(&mut tally), Ok(()));
         }
-        assert!(tally.requests >= 2_000);
+        assert!(tally.requests >= 4_000);
         assert!(tally.missed().len() < tally.rows().count() / 4);
     }
 }

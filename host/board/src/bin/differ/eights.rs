@@ -1,6 +1,7 @@
 //! The rows of the search for a byte that is not erased. It may take eight bytes
-//! at a time, counted from the range's start: so the rows are how far a range goes
-//! behind its last whole eight, and where in it a byte alone is not erased.
+//! at a time, counted from the range's start, and two eights in a turn: so the rows
+//! are how far a range goes behind its last whole eight, and where in it a byte alone
+//! is not erased.
 
 use crate::rows::Rows;
 use crate::seen::{Command, Seen};
@@ -20,6 +21,15 @@ pub struct Lone {
     length: u64,
 }
 
+/// Where an eight stands.
+#[derive(Clone, Copy, Debug, PartialEq)]
+enum Eight {
+    First,
+    Second,
+    /// Behind the last two.
+    Single,
+}
+
 impl Lone {
     pub fn new(flash: &[u8], range: Range<u64>) -> Option<Lone> {
         let bytes = &flash[range.start as usize..range.end as usize];
@@ -31,9 +41,15 @@ impl Lone {
         })
     }
 
-    /// Its place in a whole eight of the range.
-    fn in_eight(&self) -> Option<u64> {
-        (self.place < self.eights()).then_some(self.place % EIGHT)
+    /// Its place in a whole eight of the range, and which of two that eight is.
+    fn in_eight(&self) -> Option<(Eight, u64)> {
+        let pairs = self.length - self.length % (2 * EIGHT);
+        let eight = match self.place {
+            place if place >= pairs => Eight::Single,
+            place if place % (2 * EIGHT) < EIGHT => Eight::First,
+            _ => Eight::Second,
+        };
+        (self.place < self.eights()).then_some((eight, self.place % EIGHT))
     }
 
     /// Its place among the bytes behind the last whole eight, and their number.
@@ -101,10 +117,16 @@ impl OfCommand<'_> {
     }
 
     fn in_eights(&mut self) {
-        for place in 0..EIGHT {
-            self.lone(&format!("byte {place} of an eight"), move |lone| {
-                lone.in_eight() == Some(place)
-            });
+        for (eight, name) in [
+            (Eight::First, "a first eight"),
+            (Eight::Second, "a second eight"),
+            (Eight::Single, "an eight without a second"),
+        ] {
+            for place in 0..EIGHT {
+                self.lone(&format!("byte {place} of {name}"), move |lone| {
+                    lone.in_eight() == Some((eight, place))
+                });
+            }
         }
     }
 
@@ -179,20 +201,24 @@ mod tests {
     use super::*;
     use mullirim_host::second::ERASED;
 
-    /// Of a range of 1,031 bytes, with this byte alone not erased.
+    /// Of a range of 1,039 bytes, with this byte alone not erased.
     fn lone(place: usize) -> Lone {
         let mut flash = [ERASED; 3_072];
         flash[1_024 + place] = 0x7F;
-        Lone::new(&flash, 1_024..2_055).unwrap()
+        Lone::new(&flash, 1_024..2_063).unwrap()
     }
 
     #[test]
     fn a_byte_is_in_an_eight_or_behind_them() {
-        assert_eq!((lone(0).in_eight(), lone(0).behind()), (Some(0), None));
-        assert_eq!(lone(1_023).in_eight(), Some(7));
-        assert_eq!(lone(1_024).in_eight(), None);
-        assert_eq!(lone(1_024).behind(), Some((0, 7)));
-        assert_eq!(lone(1_030).behind(), Some((6, 7)));
+        assert_eq!(lone(0).in_eight(), Some((Eight::First, 0)));
+        assert_eq!(lone(0).behind(), None);
+        assert_eq!(lone(1_015).in_eight(), Some((Eight::First, 7)));
+        assert_eq!(lone(1_023).in_eight(), Some((Eight::Second, 7)));
+        assert_eq!(lone(1_024).in_eight(), Some((Eight::Single, 0)));
+        assert_eq!(lone(1_031).in_eight(), Some((Eight::Single, 7)));
+        assert_eq!(lone(1_032).in_eight(), None);
+        assert_eq!(lone(1_032).behind(), Some((0, 7)));
+        assert_eq!(lone(1_038).behind(), Some((6, 7)));
         assert!(lone(1_024).in_last_part() && !lone(1_023).in_last_part());
     }
 
