@@ -16,7 +16,7 @@ pub const ERASED: u8 = 0xFF;
 const EIGHT: usize = 8;
 
 // Two such eights.
-const PAIR: usize = 16;
+const PAIR: usize = 2 * EIGHT;
 
 // The number that eight erased bytes make.
 const ALL_ERASED: u64 = 0xFFFF_FFFF_FFFF_FFFF;
@@ -147,9 +147,25 @@ fn eight(flash: &[u8], i: usize) -> u64
     (numbers::long(flash, i) as u64) + (numbers::long(flash, i + 4) as u64) * 0x1_0000_0000
 }
 
-// How far flash is erased on the way from one place to another, eight bytes at a time: to the eight that aren't all erased, or to where
-// fewer are left. A turn judges two eights, one after the other, since with one the counting costs more than the judging.
+// How far flash is erased on the way from one place to another, an eight at a time: to the eight that isn't all erased, or to where fewer
+// bytes are left.
 fn past_eights(flash: &[u8], from: usize, to: usize) -> usize
+    requires { ⌜ (from ≤ to) × Within (now flash) 0 to ⌝ }
+    ensures { λ r. ⌜ Passed (now (flash .entry)) from to r ⌝ }
+{
+    let mut at = from;
+    while at + EIGHT <= to {
+        if eight(flash, at) != ALL_ERASED {
+            return at;
+        }
+        at += EIGHT;
+    }
+    at
+}
+
+// The same, with two eights a turn while there are two, since with one the counting costs more than the judging. They are judged one after
+// the other, so that a byte in the first is met as soon.
+fn past_pairs(flash: &[u8], from: usize, to: usize) -> usize
     requires { ⌜ (from ≤ to) × Within (now flash) 0 to ⌝ }
     ensures { λ r. ⌜ Passed (now (flash .entry)) from to r ⌝ }
 {
@@ -163,13 +179,7 @@ fn past_eights(flash: &[u8], from: usize, to: usize) -> usize
         }
         at += PAIR;
     }
-    if to < at + EIGHT {
-        return at;
-    }
-    if eight(flash, at) != ALL_ERASED {
-        return at;
-    }
-    at + EIGHT
+    past_eights(flash, at, to)
 }
 
 // The walk over blocks and the walk over a block's bytes are left together, at the first byte that is not erased. Eight bytes at a time
@@ -178,18 +188,18 @@ fn search_from(flash: &[u8], from: Addr, n: u32) -> Found
     requires { ⌜ Within (now flash) (from .0) n ⌝ }
     ensures { λ r. ⌜ r ≡ firstIn (from .0) (range (now (flash .entry)) (from .0) n) ⌝ }
 {
-    let mut at = from.0;
-    let end = at + n;
+    let mut at = from.0 as usize;
+    let end = at + n as usize;
     let mut found = Found::Nothing;
     'search: while at < end {
-        let mut stop = end;
-        if BLOCK < end - at {
-            stop = at + BLOCK;
+        let mut stop = at + BLOCK as usize;
+        if end < stop {
+            stop = end;
         }
-        at = past_eights(flash, at as usize, stop as usize) as u32;
+        at = past_pairs(flash, at, stop);
         while at < stop {
-            if flash[at as usize] != ERASED {
-                found = Found::At(Addr(at));
+            if flash[at] != ERASED {
+                found = Found::At(Addr(at as u32));
                 break 'search;
             }
             at += 1;

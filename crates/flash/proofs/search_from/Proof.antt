@@ -23,33 +23,30 @@ Inv-search flash n at₀ end found₀ at found = (found ≡ Found.Nothing) × Ah
 abbrev μ-search : tie.MeasureT-search
 μ-search flash n at₀ end found₀ at found = end - at
 
+cast-at : tie.Need-cast-at Inv-loop μ-loop Inv-search μ-search
+cast-at c = omega arith
+
 add-end : tie.Need-add-end Inv-loop μ-loop Inv-search μ-search
 add-end c = omega arith
 
 search-holds : tie.Need-search-holds Inv-loop μ-loop Inv-search μ-search
 search-holds c = (refl, ahead-from _ _ _ _ (omega arith))
 
-sub-if1 : tie.Need-sub-if1 Inv-loop μ-loop Inv-search μ-search
-sub-if1 c = omega arith
+cast-stop : tie.Need-cast-stop Inv-loop μ-loop Inv-search μ-search
+cast-stop c = omega arith
 
 add-stop : tie.Need-add-stop Inv-loop μ-loop Inv-search μ-search
 add-stop c = omega arith
 
-cast-past-eights : tie.Need-cast-past-eights Inv-loop μ-loop Inv-search μ-search
-cast-past-eights c = omega arith
-
-past-eights-requires : tie.Need-past-eights-requires Inv-loop μ-loop Inv-search μ-search
-past-eights-requires c κs = ⊎-elim (λ w. (omega arith, omega arith)) (λ w. (omega arith, omega arith)) (c .before .if1 .came)
-
-cast-at : tie.Need-cast-at Inv-loop μ-loop Inv-search μ-search
-cast-at c = ⊎-elim (λ w. omega arith) (λ w. omega arith) (c .before .before .if1 .came)
+past-pairs-requires : tie.Need-past-pairs-requires Inv-loop μ-loop Inv-search μ-search
+past-pairs-requires c κs = ⊎-elim (λ w. (omega arith, omega arith)) (λ w. (omega arith, omega arith)) (c .if1 .came)
 
 loop-holds : tie.Need-loop-holds Inv-loop μ-loop Inv-search μ-search
 loop-holds c =
-    let split = c .before .before in
+    let split = c .before in
     let walk = split .before .before in
-    let a = walk .before .before .args in
-    let p = c .past-eights .ensures in
+    let a = walk .before .before .before .args in
+    let p = c .past-pairs .ensures in
     let within : split .if1 .stop ≤ a .from .0 + a .n = ⊎-elim (λ w. omega arith) (λ w. omega arith) (split .if1 .came) in (
       walk .search .inv .0,
       p .high,
@@ -58,16 +55,16 @@ loop-holds c =
     )
 
 search-less : tie.Need-search-less Inv-loop μ-loop Inv-search μ-search
-search-less c = ⊎-elim (λ w. omega arith) (λ w. omega arith) (c .before .before .before .before .if1 .came)
+search-less c = ⊎-elim (λ w. omega arith) (λ w. omega arith) (c .before .before .before .if1 .came)
 
 search-again : tie.Need-search-again Inv-loop μ-loop Inv-search μ-search
 search-again c = (c .before .loop .inv .0, c .before .loop .inv .3)
 
-cast-if2 : tie.Need-cast-if2 Inv-loop μ-loop Inv-search μ-search
-cast-if2 c = omega arith
-
 shared-slice-read-if2 : tie.Need-shared-slice-read-if2 Inv-loop μ-loop Inv-search μ-search
 shared-slice-read-if2 c = omega arith
+
+cast-t14 : tie.Need-cast-t14 Inv-loop μ-loop Inv-search μ-search
+cast-t14 c = omega arith
 
 add-at : tie.Need-add-at Inv-loop μ-loop Inv-search μ-search
 add-at c = omega arith
@@ -89,7 +86,7 @@ loop-again c =
 returns : tie.Need-returns Inv-loop μ-loop Inv-search μ-search
 returns c =
     let l = c .before .search in
-    let a = c .before .before .before .args in
+    let a = c .before .before .before .before .args in
     let n = a .n in
     let from = a .from .0 in
     l .inv .0
@@ -114,18 +111,17 @@ search-from-spec =
     μ-loop
     Inv-search
     μ-search
+    cast-at
     add-end
     search-holds
-    sub-if1
+    cast-stop
     add-stop
-    cast-past-eights
-    past-eights-requires
-    cast-at
+    past-pairs-requires
     loop-holds
     search-less
     search-again
-    cast-if2
     shared-slice-read-if2
+    cast-t14
     add-at
     loop-less
     loop-again
