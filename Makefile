@@ -8,7 +8,7 @@ SOURCES := crates.txt $(shell find crates -name '*.rt' -o -name '*.antt')
 CHECKED = -std=c11 -g -O1 -Wall -Wextra -DCHECKED -fsanitize=address,undefined -fno-sanitize-recover=all -Iinclude
 
 .PHONY: test quick demo tool soak bench inputs expected host layout library example differ suffixes bundles faults replay checked listed
-.PHONY: said quoted stored names stock setup
+.PHONY: said quoted stored names stock setup beside
 
 # The gate: the second loader's own tests, the stored outputs against it, the calls for C and Rust, then every proof, every edit that
 # must fail and every program, from nothing. The last line is the prover's own count.
@@ -86,6 +86,10 @@ bundles: build/libboard.a
 # The proved calls beside plain Rust and zlib. Figures are for docs/PERFORMANCE.md; nothing tests them.
 bench: build/libboard.a
 	@$(BOARD) bench
+
+# Today's loader beside that of an earlier commit, many times in one program: make beside COMMIT=... (ARGS=--all). The same holds for it.
+beside: build/libboard.a
+	@tools/beside $(COMMIT) $(ARGS)
 
 # The comparisons find what they are there to find.
 faults: build/libboard.a
