@@ -49,17 +49,6 @@ blank-more f at m n a b =
     ∙ ap₂ _++_ a (ap (take n) (drop-drop m at f) ∙ b)
     ∙ replicate-append-replicate m n 255
 
-pub passed-on : (f : List ℕ) (at stop mid next : ℕ) → Passed f at stop mid → Passed f mid stop next → Passed f at stop next
-passed-on f at stop mid next p q =
-    let here : at + (mid - at) ≡ mid = omega (arith, p .low) in
-    let long : next - at ≡ mid - at + (next - mid) = omega (arith, p .low, q .low) in
-    let more : range f (at + (mid - at)) (next - mid) ≡ blank (next - mid) = rw here (q .over) in
-    record {
-      low = omega (arith, p .low, q .low);
-      high = q .high;
-      over = rw long (blank-more f at (mid - at) (next - mid) (p .over) more);
-    }
-
 -- a number of two halves is the greatest one only if both are
 module _ (f : List ℕ) (byte : (k : ℕ) → getD f k 0 < 256) where
   four-blank : (at : ℕ) → at + 4 ≤ length f → longAt f at ≡ 2 ^ 32 - 1 → range f at 4 ≡ blank 4
@@ -78,9 +67,10 @@ module _ (f : List ℕ) (byte : (k : ℕ) → getD f k 0 < 256) where
       (at stop next to : ℕ) → stop ≤ length f → to ≤ stop → next + 8 ≡ to → eightAt f next ≡ 2 ^ 64 - 1 → Passed f at stop next
       → Passed f at stop to
   passed-eight at stop next to h le e8 e p =
-      let long : to - next ≡ 8 = omega arith in
-      passed-on f at stop next to p
-      (record { low = omega arith; high = le; over = rw long (eight-blank next (omega arith) e) })
+      let here : at + (next - at) ≡ next = omega (arith, p .low) in
+      let long : to - at ≡ next - at + 8 = omega (arith, p .low) in
+      let eight : range f (at + (next - at)) 8 ≡ blank 8 = rw here (eight-blank next (omega arith) e) in
+      record { low = omega (arith, p .low); high = le; over = rw long (blank-more f at (next - at) 8 (p .over) eight) }
 
 module _ (f : List ℕ) (from n : ℕ) (h : from + n ≤ length f) where
   byte-at : (at : ℕ) → from ≤ at → at < from + n → drop (at - from) (range f from n) ≡ getD f at 0 ∷ drop (at + 1 - from) (range f from n)

@@ -147,25 +147,9 @@ fn eight(flash: &[u8], i: usize) -> u64
     (numbers::long(flash, i) as u64) + (numbers::long(flash, i + 4) as u64) * 0x1_0000_0000
 }
 
-// How far flash is erased on the way from one place to another, an eight at a time: to the eight that isn't all erased, or to where fewer
-// bytes are left.
+// How far flash is erased on the way from one place to another, eight bytes at a time: to the eight that aren't all erased, or to where
+// fewer are left. A turn judges two eights, one after the other, since with one the counting costs more than the judging.
 fn past_eights(flash: &[u8], from: usize, to: usize) -> usize
-    requires { ⌜ (from ≤ to) × Within (now flash) 0 to ⌝ }
-    ensures { λ r. ⌜ Passed (now (flash .entry)) from to r ⌝ }
-{
-    let mut at = from;
-    while at + EIGHT <= to {
-        if eight(flash, at) != ALL_ERASED {
-            return at;
-        }
-        at += EIGHT;
-    }
-    at
-}
-
-// The same, with two eights a turn while there are two, since with one the counting costs more than the judging. They are judged one after
-// the other, so that a byte in the first is met as soon.
-fn past_pairs(flash: &[u8], from: usize, to: usize) -> usize
     requires { ⌜ (from ≤ to) × Within (now flash) 0 to ⌝ }
     ensures { λ r. ⌜ Passed (now (flash .entry)) from to r ⌝ }
 {
@@ -179,7 +163,13 @@ fn past_pairs(flash: &[u8], from: usize, to: usize) -> usize
         }
         at += PAIR;
     }
-    past_eights(flash, at, to)
+    if to - at < EIGHT {
+        return at;
+    }
+    if eight(flash, at) != ALL_ERASED {
+        return at;
+    }
+    at + EIGHT
 }
 
 // The walk over blocks and the walk over a block's bytes are left together, at the first byte that is not erased. Eight bytes at a time
@@ -196,7 +186,7 @@ fn search_from(flash: &[u8], from: Addr, n: u32) -> Found
         if end < stop {
             stop = end;
         }
-        at = past_pairs(flash, at, stop);
+        at = past_eights(flash, at, stop);
         while at < stop {
             if flash[at] != ERASED {
                 found = Found::At(Addr(at as u32));

@@ -38,15 +38,15 @@ cast-stop c = omega arith
 add-stop : tie.Need-add-stop Inv-loop μ-loop Inv-search μ-search
 add-stop c = omega arith
 
-past-pairs-requires : tie.Need-past-pairs-requires Inv-loop μ-loop Inv-search μ-search
-past-pairs-requires c κs = ⊎-elim (λ w. (omega arith, omega arith)) (λ w. (omega arith, omega arith)) (c .if1 .came)
+past-eights-requires : tie.Need-past-eights-requires Inv-loop μ-loop Inv-search μ-search
+past-eights-requires c κs = ⊎-elim (λ w. (omega arith, omega arith)) (λ w. (omega arith, omega arith)) (c .if1 .came)
 
 loop-holds : tie.Need-loop-holds Inv-loop μ-loop Inv-search μ-search
 loop-holds c =
     let split = c .before in
     let walk = split .before .before in
     let a = walk .before .before .before .args in
-    let p = c .past-pairs .ensures in
+    let p = c .past-eights .ensures in
     let within : split .if1 .stop ≤ a .from .0 + a .n = ⊎-elim (λ w. omega arith) (λ w. omega arith) (split .if1 .came) in (
       walk .search .inv .0,
       p .high,
@@ -116,7 +116,7 @@ search-from-spec =
     search-holds
     cast-stop
     add-stop
-    past-pairs-requires
+    past-eights-requires
     loop-holds
     search-less
     search-again
