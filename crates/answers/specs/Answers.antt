@@ -1,8 +1,11 @@
 -- What a call leaves, and the numbers that the host hears for its answer.
 use Prim.Native.Nat.{ℕ}
 use mathlib.Core.List.{List}
+use Rattle.session.specs.Session.{withTalk}
+use Rattle.session.specs.declared.Talk.{Talk}
 use Rattle.session.specs.declared.Session.{Session}
 use Rattle.answers.specs.declared.Answer.{Answer}
+use Rattle.answers.specs.declared.Heard.{Heard}
 use Rattle.answers.specs.declared.Outcome.{Outcome}
 
 -- the number of each answer
@@ -16,6 +19,13 @@ answerNumber Answer.ResetAsked = 4
 -- an answer with its count of reply bytes, and the session handed back
 abbrev pub outcome : Answer → ℕ → Session → Outcome
 outcome answer count session = record { answer = answer; count = count; session = session }
+
+-- an answer with its count and the talk from there on, and the outcome that it is at a session: board and sums stay
+abbrev pub heard : Answer → ℕ → Talk → Heard
+heard answer count talk = record { answer = answer; count = count; talk = talk }
+
+abbrev pub heardAt : Session → Heard → Outcome
+heardAt s h = outcome (h .answer) (h .count) (withTalk s (h .talk))
 
 -- all that a call leaves: the answer by its number, how many bytes of the reply are meant, the session for the next call, the flash and
 -- the reply buffer

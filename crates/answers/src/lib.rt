@@ -1,15 +1,18 @@
 // What the host hears, how a session goes on to another state, and the answers that refuse.
 use flash::Addr;
 use session::Download;
+use session::Phase;
 use session::Session;
 use session::State;
 use session::Status;
+use session::Talk;
 ghost use mathlib.Core.Path.{_≡_};
 ghost use mathlib.Core.Bool.{true};
-ghost use Rattle.session.specs.Session.{phaseOf, downOf};
+ghost use Rattle.session.specs.Session.{phaseOf, downOf, withTalk};
 ghost use Rattle.session.specs.Rules.{fitOf};
-ghost use Rattle.answers.specs.Answers.{answerNumber};
-ghost use Rattle.answers.specs.Moves.{movedTo, toIdle, toError, toSync, takenOf, stallOf, unfitOf, faultOf, resetOf};
+ghost use Rattle.answers.specs.Answers.{answerNumber, heard, heardAt};
+ghost use Rattle.answers.specs.declared.Answer.{Answer};
+ghost use Rattle.answers.specs.Moves.{movedTo, toIdle, toError, toSync, stallOf, unfitOf, faultOf, resetOf};
 
 // What the host hears.
 pub enum Answer {
@@ -27,6 +30,13 @@ pub struct Outcome {
     pub session: Session,
 }
 
+// What the host hears, and how the talk goes on from there: what is decided of an outcome.
+pub struct Heard {
+    pub answer: Answer,
+    pub count: u32,
+    pub talk: Talk,
+}
+
 // The number that the host hears for an answer.
 pub fn number(answer: Answer) -> u32
     ensures { λ r. ⌜ r ≡ answerNumber answer ⌝ }
@@ -40,17 +50,21 @@ pub fn number(answer: Answer) -> u32
     }
 }
 
-// The session in another state than upload idle: an upload that ran is over.
-pub fn moved(s: Session, state: State, status: Status, after: State, down: Download) -> Session
-    ensures { λ r. ⌜ r ≡ movedTo s (phaseOf (state .0) (status .0) (after .0)) down ⌝ }
+// The talk in another state than upload idle: an upload that ran is over.
+pub fn moved(s: Session, state: State, status: Status, after: State, down: Download) -> Talk
+    ensures { λ r. ⌜ withTalk s r ≡ movedTo s (phaseOf (state .0) (status .0) (after .0)) down ⌝ }
 {
-    let mut t = s;
-    t.phase.state.0 = state.0;
-    t.phase.status.0 = status.0;
-    t.phase.after.0 = after.0;
-    t.down = down;
-    t.up.place = 0;
-    t
+    let mut up = s.up;
+    up.place = 0;
+    Talk {
+        phase: Phase {
+            state: state,
+            status: status,
+            after: after,
+        },
+        down: down,
+        up: up,
+    }
 }
 
 fn none() -> Download
@@ -62,8 +76,8 @@ fn none() -> Download
     }
 }
 
-pub fn idle(s: Session) -> Session
-    ensures { λ r. ⌜ r ≡ toIdle s ⌝ }
+pub fn idle(s: Session) -> Talk
+    ensures { λ r. ⌜ withTalk s r ≡ toIdle s ⌝ }
 {
     moved(
         s,
@@ -74,8 +88,8 @@ pub fn idle(s: Session) -> Session
     )
 }
 
-fn error(s: Session, status: u8) -> Session
-    ensures { λ r. ⌜ r ≡ toError s status ⌝ }
+fn error(s: Session, status: u8) -> Talk
+    ensures { λ r. ⌜ withTalk s r ≡ toError s status ⌝ }
 {
     moved(
         s,
@@ -87,8 +101,8 @@ fn error(s: Session, status: u8) -> Session
 }
 
 // Download sync that leads back to idle: no download runs.
-pub fn sync(s: Session) -> Session
-    ensures { λ r. ⌜ r ≡ toSync s 2 (downOf 0 0) ⌝ }
+pub fn sync(s: Session) -> Talk
+    ensures { λ r. ⌜ withTalk s r ≡ toSync s 2 (downOf 0 0) ⌝ }
 {
     moved(
         s,
@@ -100,8 +114,8 @@ pub fn sync(s: Session) -> Session
 }
 
 // Manifest sync: the download is closed.
-pub fn manifest(s: Session) -> Session
-    ensures { λ r. ⌜ r ≡ movedTo s (phaseOf 6 0 2) (downOf 0 0) ⌝ }
+pub fn manifest(s: Session) -> Talk
+    ensures { λ r. ⌜ withTalk s r ≡ movedTo s (phaseOf 6 0 2) (downOf 0 0) ⌝ }
 {
     moved(
         s,
@@ -112,62 +126,60 @@ pub fn manifest(s: Session) -> Session
     )
 }
 
-pub fn taken(s: Session) -> Outcome
-    ensures { λ r. ⌜ r ≡ takenOf s ⌝ }
+pub fn taken(talk: Talk) -> Heard
+    ensures { λ r. ⌜ r ≡ heard Answer.Taken 0 talk ⌝ }
 {
-    Outcome {
+    Heard {
         answer: Answer::Taken,
         count: 0,
-        session: s,
+        talk: talk,
     }
 }
 
-pub fn stalled(s: Session) -> Outcome
-    ensures { λ r. ⌜ r ≡ stallOf s ⌝ }
+pub fn stalled(s: Session) -> Heard
+    ensures { λ r. ⌜ heardAt s r ≡ stallOf s ⌝ }
 {
     if s.phase.state.0 == State::ERROR {
-        return Outcome {
+        return Heard {
             answer: Answer::Stalled,
             count: 0,
-            session: s,
+            talk: session::talk_of(s),
         };
     }
-    Outcome {
+    Heard {
         answer: Answer::Stalled,
         count: 0,
-        session: error(s, Status::STALLED),
+        talk: error(s, Status::STALLED),
     }
 }
 
-pub fn unfit(s: Session) -> Outcome
-    ensures { λ r. ⌜ r ≡ unfitOf s ⌝ }
+pub fn unfit(s: Session) -> Heard
+    ensures { λ r. ⌜ heardAt s r ≡ unfitOf s ⌝ }
 {
-    Outcome {
+    Heard {
         answer: Answer::Unfit,
         count: 0,
-        session: s,
+        talk: session::talk_of(s),
     }
 }
 
-pub fn faulted(s: Session, status: u8) -> Outcome
-    ensures { λ r. ⌜ r ≡ faultOf s status ⌝ }
+pub fn faulted(s: Session, status: u8) -> Heard
+    ensures { λ r. ⌜ heardAt s r ≡ faultOf s status ⌝ }
 {
-    Outcome {
+    Heard {
         answer: Answer::Faulted,
         count: 0,
-        session: error(s, status),
+        talk: error(s, status),
     }
 }
 
-pub fn reset(s: Session) -> Outcome
+pub fn reset(s: Session) -> Heard
     requires { ⌜ fitOf s ≡ true ⌝ }
-    ensures { λ r. ⌜ r ≡ resetOf s ⌝ }
+    ensures { λ r. ⌜ heardAt s r ≡ resetOf s ⌝ }
 {
-    let b = s.board;
-    let sums = s.sums;
-    Outcome {
+    Heard {
         answer: Answer::ResetAsked,
         count: 0,
-        session: Session::fresh(b.a, b.b, b.part0, b.part1, sums),
+        talk: session::fresh_talk(s.board),
     }
 }

@@ -18,9 +18,8 @@ use Rattle.session.proofs.Laws.{fit-kept, fit-facts, split-facts, end-in-flash,
 use Rattle.session.proofs.Tests.{left-of}
 use Rattle.answers.specs.declared.Outcome.{Outcome}
 use Rattle.answers.specs.Moves.{movedTo, faultOf, resetOf}
-use Rattle.jobs.specs.declared.Plan.{Plan}
 use Rattle.jobs.specs.declared.Job.{Job}
-use Rattle.jobs.specs.Job.{planOf, Place, Can}
+use Rattle.jobs.specs.Job.{Plan, planOf, Place, Can}
 use Rattle.jobs.proofs.Laws.{place-within}
 use Rattle.command.specs.Ready.{Ready, Loading}
 use Rattle.request.specs.Commands.{prog, read, check, erase, info, bin, reset}

@@ -14,9 +14,8 @@ use Rattle.numbers.specs.Numbers.{wordAt, longAt}
 use Rattle.request.specs.Commands.{prog, read, check, erase, info, bin, reset}
 use Rattle.answers.specs.declared.Outcome.{Outcome}
 use Rattle.answers.specs.Moves.{movedTo, toSync, takenOf, faultOf, resetOf}
-use Rattle.jobs.specs.declared.Plan.{Plan}
 use Rattle.jobs.specs.declared.Job.{Job}
-use Rattle.jobs.specs.Job.{planOf, bytesTo, wipeOf}
+use Rattle.jobs.specs.Job.{Plan, planOf, bytesTo, wipeOf}
 
 -- whether a search found nothing
 abbrev pub nothing : Found → Bool

@@ -1,11 +1,11 @@
 // DNLOAD: the eight-byte commands in state idle, and pieces of data in state download idle. Flash is only read here: what is to be done
 // to it is answered as a job.
-use answers::Outcome;
+use answers::Heard;
 use flash::Addr;
 use flash::Block;
 use flash::Found;
+use jobs::Decision;
 use jobs::Job;
-use jobs::Plan;
 use request::Command;
 use session::Download;
 use session::Session;
@@ -19,6 +19,8 @@ ghost use lib.ListN.{length, getD};
 ghost use Rattle.flash.specs.Flash.{startOf};
 ghost use Rattle.numbers.specs.Numbers.{wordAt};
 ghost use Rattle.session.specs.Rules.{fitOf, inApplication};
+ghost use Rattle.answers.specs.Answers.{heardAt};
+ghost use Rattle.jobs.specs.Job.{planned};
 ghost use Rattle.command.specs.Ready.{Ready, Loading};
 ghost use Rattle.command.specs.Download.{allErased, wroteOf, faultPlan, progOf, readOf, checkOf, eraseOf};
 ghost use Rattle.command.specs.Download.{infoOf, prefixFor, binOf, wellFormed, byNumber, commandOf, closedOf, pieceOf, dnloadOf};
@@ -35,36 +37,36 @@ fn erased(flash: &[u8], block: Block, len: u32) -> bool
 }
 
 // The call's data, but for the first `skip` bytes of it, is to go to its places, and the download goes on behind these n bytes.
-fn write(s: Session, at: Addr, skip: u32, n: u32, left: u32) -> Plan
+fn write(s: Session, at: Addr, skip: u32, n: u32, left: u32) -> Decision
     requires { ⌜ at .0 + n < 4294967296 ⌝ }
-    ensures { λ r. ⌜ r ≡ wroteOf s (at .0) skip n left ⌝ }
+    ensures { λ r. ⌜ planned s r ≡ wroteOf s (at .0) skip n left ⌝ }
 {
     let down = Download {
         place: Addr(at.0 + n),
         left: left,
     };
-    let o = answers::taken(answers::moved(
+    let h = answers::taken(answers::moved(
         s,
         State(State::DOWNLOAD_SYNC),
         Status(Status::OK),
         State(State::DOWNLOAD_IDLE),
         down,
     ));
-    Plan {
-        outcome: o,
+    Decision {
+        heard: h,
         job: Job::Bytes { at: at, skip: skip },
     }
 }
 
-fn fault(s: Session, status: u8) -> Plan
-    ensures { λ r. ⌜ r ≡ faultPlan s status ⌝ }
+fn fault(s: Session, status: u8) -> Decision
+    ensures { λ r. ⌜ planned s r ≡ faultPlan s status ⌝ }
 {
     jobs::only(answers::faulted(s, status))
 }
 
-fn prog(s: Session, flash: &[u8], block: Block, len: u32, n: usize) -> Plan
+fn prog(s: Session, flash: &[u8], block: Block, len: u32, n: usize) -> Decision
     requires { ⌜ Ready s (now flash) ⌝ }
-    ensures { λ r. ⌜ r ≡ progOf s (now (flash .entry)) (block .0) len n ⌝ }
+    ensures { λ r. ⌜ planned s r ≡ progOf s (now (flash .entry)) (block .0) len n ⌝ }
 {
     if !session::in_application(s.board, block, len) {
         return fault(s, Status::ADDRESS);
@@ -78,8 +80,8 @@ fn prog(s: Session, flash: &[u8], block: Block, len: u32, n: usize) -> Plan
     write(s, block.start(), 8, n as u32, len - n as u32)
 }
 
-fn read(s: Session, block: Block, len: u32) -> Outcome
-    ensures { λ r. ⌜ r ≡ readOf s (block .0) len ⌝ }
+fn read(s: Session, block: Block, len: u32) -> Heard
+    ensures { λ r. ⌜ heardAt s r ≡ readOf s (block .0) len ⌝ }
 {
     if !session::in_application(s.board, block, len) {
         return answers::faulted(s, Status::ADDRESS);
@@ -91,9 +93,9 @@ fn read(s: Session, block: Block, len: u32) -> Outcome
     answers::taken(answers::sync(t))
 }
 
-fn check(s: Session, flash: &[u8], block: Block, len: u32) -> Outcome
+fn check(s: Session, flash: &[u8], block: Block, len: u32) -> Heard
     requires { ⌜ Ready s (now flash) ⌝ }
-    ensures { λ r. ⌜ r ≡ checkOf s (now (flash .entry)) (block .0) len ⌝ }
+    ensures { λ r. ⌜ heardAt s r ≡ checkOf s (now (flash .entry)) (block .0) len ⌝ }
 {
     if !session::in_application(s.board, block, len) {
         return answers::faulted(s, Status::ADDRESS);
@@ -105,17 +107,17 @@ fn check(s: Session, flash: &[u8], block: Block, len: u32) -> Outcome
 }
 
 // Blocks are as many bytes as lie before the block of their number.
-fn erase(s: Session, block: Block, count: u32) -> Plan
+fn erase(s: Session, block: Block, count: u32) -> Decision
     requires { ⌜ count < 65536 ⌝ }
-    ensures { λ r. ⌜ r ≡ eraseOf s (block .0) count ⌝ }
+    ensures { λ r. ⌜ planned s r ≡ eraseOf s (block .0) count ⌝ }
 {
     let size = Block(count).start();
     if !session::in_application(s.board, block, size.0) {
         return fault(s, Status::ADDRESS);
     }
-    let o = answers::taken(answers::sync(s));
-    Plan {
-        outcome: o,
+    let h = answers::taken(answers::sync(s));
+    Decision {
+        heard: h,
         job: Job::Wipe {
             first: block,
             count: count,
@@ -123,8 +125,8 @@ fn erase(s: Session, block: Block, count: u32) -> Plan
     }
 }
 
-fn info(s: Session) -> Outcome
-    ensures { λ r. ⌜ r ≡ infoOf s ⌝ }
+fn info(s: Session) -> Heard
+    ensures { λ r. ⌜ heardAt s r ≡ infoOf s ⌝ }
 {
     let mut t = s;
     t.up.choice = Upload::INFO_BYTES;
@@ -141,8 +143,8 @@ fn prefix_for(flag: u8) -> u8
     0
 }
 
-fn bin(s: Session, flag: u8) -> Outcome
-    ensures { λ r. ⌜ r ≡ binOf s flag ⌝ }
+fn bin(s: Session, flag: u8) -> Heard
+    ensures { λ r. ⌜ heardAt s r ≡ binOf s flag ⌝ }
 {
     let mut t = s;
     let on = prefix_for(flag);
@@ -160,10 +162,10 @@ fn well_formed(d: &[u8]) -> bool
     (Command::PROG <= code) & (code <= Command::RESET) & ((code == Command::PROG) | (d.len() == 8))
 }
 
-fn by_number(s: Session, flash: &[u8], d: &[u8]) -> Plan
+fn by_number(s: Session, flash: &[u8], d: &[u8]) -> Decision
     requires { ⌜ Ready s (now flash) ⌝ }
     requires { ⌜ 8 ≤ length (now d) ⌝ }
-    ensures { λ r. ⌜ r ≡ byNumber (getD (now (d .entry)) 0 0) s (now (flash .entry)) (now (d .entry)) ⌝ }
+    ensures { λ r. ⌜ planned s r ≡ byNumber (getD (now (d .entry)) 0 0) s (now (flash .entry)) (now (d .entry)) ⌝ }
 {
     let code = d[0];
     let block = Block(numbers::word(d, 2));
@@ -179,9 +181,9 @@ fn by_number(s: Session, flash: &[u8], d: &[u8]) -> Plan
     }
 }
 
-fn command(s: Session, flash: &[u8], d: &[u8]) -> Plan
+fn command(s: Session, flash: &[u8], d: &[u8]) -> Decision
     requires { ⌜ Ready s (now flash) ⌝ }
-    ensures { λ r. ⌜ r ≡ commandOf s (now (flash .entry)) (now (d .entry)) ⌝ }
+    ensures { λ r. ⌜ planned s r ≡ commandOf s (now (flash .entry)) (now (d .entry)) ⌝ }
 {
     if !well_formed(d) {
         return fault(s, Status::VENDOR);
@@ -189,8 +191,8 @@ fn command(s: Session, flash: &[u8], d: &[u8]) -> Plan
     by_number(s, flash, d)
 }
 
-fn close(s: Session) -> Outcome
-    ensures { λ r. ⌜ r ≡ closedOf s ⌝ }
+fn close(s: Session) -> Heard
+    ensures { λ r. ⌜ heardAt s r ≡ closedOf s ⌝ }
 {
     if s.down.left != 0 {
         return answers::faulted(s, Status::NOT_DONE);
@@ -198,10 +200,10 @@ fn close(s: Session) -> Outcome
     answers::taken(answers::manifest(s))
 }
 
-fn piece(s: Session, n: usize) -> Plan
+fn piece(s: Session, n: usize) -> Decision
     requires { ⌜ fitOf s ≡ true ⌝ }
     requires { ⌜ s .phase .state .0 ≡ 5 ⌝ }
-    ensures { λ r. ⌜ r ≡ pieceOf s n ⌝ }
+    ensures { λ r. ⌜ planned s r ≡ pieceOf s n ⌝ }
 {
     if n == 0 {
         return jobs::only(close(s));
@@ -215,10 +217,10 @@ fn piece(s: Session, n: usize) -> Plan
 }
 
 // What a DNLOAD does in a state that allows it: a command in idle, a piece in download idle.
-pub fn dnload(s: Session, flash: &[u8], d: &[u8]) -> Plan
+pub fn dnload(s: Session, flash: &[u8], d: &[u8]) -> Decision
     requires { ⌜ Ready s (now flash) ⌝ }
     requires { ⌜ Loading s ⌝ }
-    ensures { λ r. ⌜ r ≡ dnloadOf s (now (flash .entry)) (now (d .entry)) ⌝ }
+    ensures { λ r. ⌜ planned s r ≡ dnloadOf s (now (flash .entry)) (now (d .entry)) ⌝ }
 {
     if s.phase.state.0 == State::IDLE {
         command(s, flash, d)

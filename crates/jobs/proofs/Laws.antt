@@ -1,4 +1,5 @@
--- A job's single stores leave the flash that it is said to leave, and what can be carried out lies in flash. Assumes nothing.
+-- A job's single stores leave the flash that it is said to leave, what can be carried out lies in flash, and stores and sums together are
+-- what a job is said to leave. Assumes nothing.
 use Prim.Native.Nat.{ℕ, _+_, _-_, _≤_}
 use mathlib.Core.List.{List}
 use mathlib.Core.Path.{_≡_, refl, sym, ap, ap₂, subst, subst⁻¹, _∙_}
@@ -13,11 +14,20 @@ use Rattle.sums.specs.Sum.{Split, refreshed}
 use Rattle.sums.specs.declared.Sums.{Sums}
 use Rattle.session.specs.Session.{appEnd}
 use Rattle.session.specs.declared.Board.{Board}
+use Rattle.session.specs.declared.Session.{Session}
+use Rattle.answers.specs.declared.Heard.{Heard}
 use Rattle.answers.specs.declared.Outcome.{Outcome}
-use Rattle.answers.specs.Answers.{done}
+use Rattle.answers.specs.Answers.{done, heardAt}
+use Rattle.jobs.specs.declared.Decision.{Decision}
 use Rattle.jobs.specs.declared.Job.{Job}
 use Rattle.jobs.specs.declared.Job.the-variants.{Nothing, Bytes, Wipe}
-use Rattle.jobs.specs.Job.{Place, Can, storesFor, sumsAfter, sumsWiped, summed, bytesDone, wipeDone, jobDone}
+use Rattle.jobs.specs.Job.{planOf, decisionOf, planned}
+use Rattle.jobs.specs.Job.{Place, Can, Reaches, storesFor, sumsAfter, sumsWiped, sumsDone, summed, bytesDone, wipeDone, jobDone}
+
+-- what leaves flash alone, at a session
+pub only-at :
+    (s : Session) (o : Outcome) (h : Heard) (x : Decision) → x ≡ decisionOf h Nothing → heardAt s h ≡ o → planned s x ≡ planOf o Nothing
+only-at s o h x e p = ap (planned s) e ∙ ap (λ (y : Outcome). planOf y Nothing) p
 
 -- a refresh of the same blocks
 pub same-refresh :
@@ -30,6 +40,10 @@ same-refresh kept f a {e} {e′} {i} {i′} {j} {j′} p q r =
 pub place-within :
     (board : Board) (f : List ℕ) (at n : ℕ) → Split f (board .a .0) (appEnd board) → Place board at n → Within f at n
 place-within board f at n s p = record { inside = omega arith; addressed = omega arith }
+
+-- an application lies in another flash as long
+split-still : {f g : List ℕ} {a e : ℕ} → Split f a e → length g ≡ length f → Split g a e
+split-still s l = record { ordered = s .ordered; counted = s .counted; inside = omega (arith, s .inside, l) }
 
 -- the flash that a job leaves is that of its single stores
 pub stores-made :
@@ -48,49 +62,86 @@ stores-made (Wipe first count) o board f d can =
 pub to-the-end : (n : ℕ) (d : List ℕ) → take (length d - n) (drop n d) ≡ drop n d
 to-the-end n d = take-all (length d - n) (drop n d) (rw length-drop (omega arith))
 
--- what can be carried out, once it is told which job it is: where its bytes go lies in flash
-module _ (job : Job) (board : Board) (f d : List ℕ) (can : Can job board f d) where
+-- what can be carried out lies in flash, and goes on to where flash has only other bytes
+pub can-reaches : (job : Job) (board : Board) (f d : List ℕ) → Can job board f d → Reaches job f d
+can-reaches Nothing board f d can = tt
+can-reaches (Bytes at skip) board f d can = (can .0, place-within board f (at .0) (length (drop skip d)) (can .1) (can .2))
+can-reaches (Wipe first count) board f d can = place-within board f (startOf (first .0)) (startOf count) (can .0) (can .1)
+
+pub can-still : (job : Job) (board : Board) (f g d : List ℕ) → length g ≡ length f → Can job board f d → Can job board g d
+can-still Nothing board f g d e can = tt
+can-still (Bytes at skip) board f g d e can = (can .0, split-still (can .1) e, can .2)
+can-still (Wipe first count) board f g d e can = (split-still (can .0) e, can .1)
+
+-- once it is told which job it is: its bytes lie in flash, and what they leave is what its stores leave
+module _ (job : Job) (f d : List ℕ) (reaches : Reaches job f d) where
+  pub reach-bytes :
+      (at : Addr) (skip : ℕ) → job ≡ Bytes at skip
+      → (skip ≤ length d) × Within f (at .0) (length (take (length d - skip) (drop skip d)))
+  reach-bytes at skip told =
+      let r = subst (λ (j : Job). Reaches j f d) told reaches in
+      (r .0, subst⁻¹ (λ (x : List ℕ). Within f (at .0) (length x)) (to-the-end skip d) (r .1))
+
+  pub bytes-stored :
+      (at : Addr) (skip : ℕ) (g : List ℕ) → job ≡ Bytes at skip → g ≡ spliced f (at .0) (take (length d - skip) (drop skip d))
+      → g ≡ carried f (storesFor job d)
+  unfolding storesFor
+  bytes-stored at skip g told e =
+      let r = subst (λ (j : Job). Reaches j f d) told reaches in
+      e
+      ∙ ap (spliced f (at .0)) (to-the-end skip d)
+      ∙ sym (stores-spliced f (at .0) (drop skip d) (r .1 .inside))
+      ∙ sym (ap (λ (j : Job). carried f (storesFor j d)) told)
+
+  pub reach-wipe : (first : Block) (count : ℕ) → job ≡ Wipe first count → Within f (startOf (first .0)) (startOf count)
+  reach-wipe first count told = subst (λ (j : Job). Reaches j f d) told reaches
+
+  pub wipe-stored :
+      (first : Block) (count : ℕ) (g : List ℕ) → job ≡ Wipe first count → g ≡ erased f (first .0) count → g ≡ carried f (storesFor job d)
+  unfolding storesFor erased
+  wipe-stored first count g told e =
+      let r = reach-wipe first count told in
+      e
+      ∙ sym (stores-spliced f (startOf (first .0)) (blank (startOf count)) (omega (arith, length-blank (startOf count), r .inside)))
+      ∙ sym (ap (λ (j : Job). carried f (storesFor j d)) told)
+
+-- once it is told which job it is: where it lies in the application, and its sums
+module _ (job : Job) (board : Board) (kept : Sums) (f d : List ℕ) (can : Can job board f d) where
   pub can-bytes :
       (at : Addr) (skip : ℕ) → job ≡ Bytes at skip
-      → (skip ≤ length d)
-      × Split f (board .a .0) (appEnd board)
-      × Place board (at .0) (length (drop skip d))
-      × Within f (at .0) (length (take (length d - skip) (drop skip d)))
-  can-bytes at skip e =
-      let c = subst (λ (j : Job). Can j board f d) e can in
-      let w = place-within board f (at .0) (length (drop skip d)) (c .1) (c .2) in
-      (c .0, c .1, c .2, subst⁻¹ (λ (x : List ℕ). Within f (at .0) (length x)) (to-the-end skip d) w)
+      → (skip ≤ length d) × Split f (board .a .0) (appEnd board) × Place board (at .0) (length d - skip)
+  can-bytes at skip told =
+      let c = subst (λ (j : Job). Can j board f d) told can in
+      (c .0, c .1, subst (Place board (at .0)) (length-drop skip d) (c .2))
+
+  pub bytes-summed :
+      (at : Addr) (skip : ℕ) → job ≡ Bytes at skip → sumsAfter board kept f (at .0) (length d - skip) ≡ sumsDone job board kept f d
+  unfolding sumsDone
+  bytes-summed at skip told =
+      ap (sumsAfter board kept f (at .0)) (sym (length-drop skip d)) ∙ sym (ap (λ (j : Job). sumsDone j board kept f d) told)
 
   pub can-wipe :
       (first : Block) (count : ℕ) → job ≡ Wipe first count
-      → Split f (board .a .0) (appEnd board)
-      × Place board (startOf (first .0)) (startOf count)
-      × Within f (startOf (first .0)) (startOf count)
-  can-wipe first count e =
-      let c = subst (λ (j : Job). Can j board f d) e can in
-      (c .0, c .1, place-within board f (startOf (first .0)) (startOf count) (c .0) (c .1))
+      → Split f (board .a .0) (appEnd board) × Place board (startOf (first .0)) (startOf count)
+  can-wipe first count told = subst (λ (j : Job). Can j board f d) told can
 
--- what each arm leaves, from what its calls answer
-module _ (job : Job) (o : Outcome) (f d g : List ℕ) (sums : Sums) (r : Outcome) (e : r ≡ summed o sums) where
-  pub bytes-left :
-      (at : Addr) (skip : ℕ) (part : List ℕ) → job ≡ Bytes at skip → part ≡ drop skip d → g ≡ spliced f (at .0) part
-      → sums ≡ sumsAfter (o .session .board) (o .session .sums) g (at .0) (length part)
-      → done r g ≡ jobDone job o f d
-  unfolding jobDone bytesDone
-  bytes-left at skip part told w p q =
-      let anew : List ℕ → Sums = λ x. sumsAfter (o .session .board) (o .session .sums) x (at .0) (length part) in
-      ap (λ (x : Outcome). done x g) (e ∙ ap (summed o) q)
-      ∙ ap (λ (x : List ℕ). done (summed o (anew x)) x) p
-      ∙ ap (bytesDone o f (at .0)) w
-      ∙ sym (ap (λ (j : Job). jobDone j o f d) told)
+  pub wipe-summed :
+      (first : Block) (count : ℕ) → job ≡ Wipe first count → sumsWiped board kept f (first .0) count ≡ sumsDone job board kept f d
+  unfolding sumsDone
+  wipe-summed first count told = sym (ap (λ (j : Job). sumsDone j board kept f d) told)
 
-  pub wipe-left :
-      (first : Block) (count : ℕ) → job ≡ Wipe first count → g ≡ erased f (first .0) count
-      → sums ≡ sumsWiped (o .session .board) (o .session .sums) g (first .0) count
-      → done r g ≡ jobDone job o f d
-  unfolding jobDone wipeDone
-  wipe-left first count told p q =
-      let anew : List ℕ → Sums = λ x. sumsWiped (o .session .board) (o .session .sums) x (first .0) count in
-      ap (λ (x : Outcome). done x g) (e ∙ ap (summed o) q)
-      ∙ ap (λ (x : List ℕ). done (summed o (anew x)) x) p
-      ∙ sym (ap (λ (j : Job). jobDone j o f d) told)
+-- stores and sums together are what a job is said to leave
+pub job-left :
+    (job : Job) (o : Outcome) (f d g : List ℕ) → Can job (o .session .board) f d → g ≡ carried f (storesFor job d)
+    → done (summed o (sumsDone job (o .session .board) (o .session .sums) g d)) g ≡ jobDone job o f d
+unfolding jobDone bytesDone wipeDone sumsDone storesFor carried
+job-left Nothing o f d g can e = ap (done o) e
+job-left (Bytes at skip) o f d g can e =
+    let s = o .session in
+    let n = length (drop skip d) in
+    ap (λ (x : List ℕ). done (summed o (sumsAfter (s .board) (s .sums) x (at .0) n)) x)
+    (e ∙ sym (stores-made (Bytes at skip) o (s .board) f d can))
+job-left (Wipe first count) o f d g can e =
+    let s = o .session in
+    ap (λ (x : List ℕ). done (summed o (sumsWiped (s .board) (s .sums) x (first .0) count)) x)
+    (e ∙ sym (stores-made (Wipe first count) o (s .board) f d can))

@@ -6,19 +6,33 @@ use lib.Dec.{eqb}
 use lib.ListN.{length, drop}
 use Rattle.flash.specs.declared.Addr.{Addr}
 use Rattle.flash.specs.declared.Block.{Block}
-use Rattle.flash.specs.Flash.{startOf, holderOf, nextStart, spliced, blank, erased, Store, stores}
+use Rattle.flash.specs.Flash.{startOf, Within, holderOf, nextStart, spliced, blank, erased, Store, stores}
 use Rattle.sums.specs.Sum.{refreshed, Split}
 use Rattle.sums.specs.declared.Sums.{Sums}
 use Rattle.session.specs.Session.{appEnd, withSums}
 use Rattle.session.specs.declared.Board.{Board}
+use Rattle.session.specs.declared.Session.{Session}
+use Rattle.answers.specs.declared.Heard.{Heard}
 use Rattle.answers.specs.declared.Outcome.{Outcome}
-use Rattle.answers.specs.Answers.{Done, outcome, done}
-use Rattle.jobs.specs.declared.Plan.{Plan}
+use Rattle.answers.specs.Answers.{Done, outcome, done, heardAt}
+use Rattle.jobs.specs.declared.Decision.{Decision}
 use Rattle.jobs.specs.declared.Job.{Job}
 use Rattle.jobs.specs.declared.Job.the-variants.{Nothing, Bytes, Wipe}
 
+-- what a call comes to but for its job, which is still to be carried out
+pub record Plan : Type 0 where
+  pub outcome : Outcome
+  pub job : Job
+
 abbrev pub planOf : Outcome → Job → Plan
 planOf o job = record { outcome = o; job = job }
+
+-- what is decided on a call, and the plan that it is at the session of the call
+abbrev pub decisionOf : Heard → Job → Decision
+decisionOf h job = record { heard = h; job = job }
+
+abbrev pub planned : Session → Decision → Plan
+planned s x = planOf (heardAt s (x .heard)) (x .job)
 
 -- some bytes of the data that come with a call, and some blocks
 abbrev pub bytesTo : ℕ → ℕ → Job
@@ -40,6 +54,12 @@ Can (Bytes at skip) board flash d =
 Can (Wipe first count) board flash d =
     Split flash (board .a .0) (appEnd board) × Place board (startOf (first .0)) (startOf count)
 
+-- a job whose stores lie in flash
+abbrev pub Reaches : Job → List ℕ → List ℕ → Type 0
+Reaches Nothing flash d = Unit
+Reaches (Bytes at skip) flash d = (skip ≤ length d) × Within flash (at .0) (length (drop skip d))
+Reaches (Wipe first count) flash d = Within flash (startOf (first .0)) (startOf count)
+
 -- the single stores of a job, the first of them first
 unfoldable pub storesFor : Job → List ℕ → List Store
 storesFor Nothing d = []
@@ -54,6 +74,12 @@ sumsAfter board kept flash at n =
 -- the sums after blocks were erased
 unfoldable pub sumsWiped : Board → Sums → List ℕ → ℕ → ℕ → Sums
 sumsWiped board kept flash first count = refreshed kept flash (board .a .0) (appEnd board) first (first + count)
+
+-- the sums once the stores of a job stand in flash
+unfoldable pub sumsDone : Job → Board → Sums → List ℕ → List ℕ → Sums
+sumsDone Nothing board kept flash d = kept
+sumsDone (Bytes at skip) board kept flash d = sumsAfter board kept flash (at .0) (length (drop skip d))
+sumsDone (Wipe first count) board kept flash d = sumsWiped board kept flash (first .0) count
 
 -- an outcome with other sums in its session
 abbrev pub summed : Outcome → Sums → Outcome

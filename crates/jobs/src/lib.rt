@@ -1,16 +1,19 @@
 // What a call does to flash. Others decide it, and are lent flash to read only; here alone a job is carried out, and the sums with it.
+use answers::Heard;
 use answers::Outcome;
 use flash::Addr;
 use flash::Block;
 use session::Board;
+use session::Session;
 use sums::Sums;
 ghost use Prim.Native.Nat.{_≤_};
 ghost use mathlib.Core.Path.{_≡_};
 ghost use lib.ListN.{length};
+ghost use Rattle.flash.specs.Flash.{carried};
 ghost use Rattle.sums.specs.Sum.{Split};
 ghost use Rattle.session.specs.Session.{appEnd};
-ghost use Rattle.answers.specs.Answers.{done};
-ghost use Rattle.jobs.specs.Job.{Place, Can, planOf, sumsAfter, summed, jobDone};
+ghost use Rattle.answers.specs.Answers.{heardAt};
+ghost use Rattle.jobs.specs.Job.{Place, Can, Reaches, decisionOf, storesFor, sumsAfter, sumsDone, summed};
 ghost use Rattle.jobs.specs.declared.Job.{Job};
 
 pub enum Job {
@@ -22,19 +25,36 @@ pub enum Job {
     Wipe { first: Block, count: u32 },
 }
 
-// What was decided: what the host hears, with the session for the next call, and what is still to be done to flash.
-pub struct Plan {
-    pub outcome: Outcome,
+// What was decided: what the host hears, and what is still to be done to flash.
+pub struct Decision {
+    pub heard: Heard,
     pub job: Job,
 }
 
-// An outcome that leaves flash alone.
-pub fn only(o: Outcome) -> Plan
-    ensures { λ r. ⌜ r ≡ planOf o Job.Nothing ⌝ }
+// What leaves flash alone.
+pub fn only(h: Heard) -> Decision
+    ensures { λ r. ⌜ r ≡ decisionOf h Job.Nothing ⌝ }
 {
-    Plan {
-        outcome: o,
+    Decision {
+        heard: h,
         job: Job::Nothing,
+    }
+}
+
+// Does a job. The one function above `flash` that is lent flash to be changed.
+pub fn carry_out(job: Job, flash: &mut [u8], d: &[u8])
+    requires { ⌜ Reaches job (now flash) (now d) ⌝ }
+    ensures { λ _. ⌜ now (flash .exit) ≡ carried (now (flash .entry)) (storesFor job (now (d .entry))) ⌝ }
+{
+    match job {
+        Job::Nothing => {}
+        Job::Bytes { at, skip } => {
+            let from = skip as usize;
+            flash::program(flash, at, &d[from..]);
+        }
+        Job::Wipe { first, count } => {
+            flash::erase(flash, first, count);
+        }
     }
 }
 
@@ -59,42 +79,49 @@ fn sums_after(board: Board, kept: Sums, flash: &[u8], at: Addr, n: u32) -> Sums
     )
 }
 
-fn with_sums(o: Outcome, sums: Sums) -> Outcome
-    ensures { λ r. ⌜ r ≡ summed o sums ⌝ }
+// The sums once a job is done: of the blocks that it touched anew.
+fn sums_done(job: Job, board: Board, kept: Sums, flash: &[u8], d: &[u8]) -> Sums
+    requires { ⌜ Can job board (now flash) (now d) ⌝ }
+    ensures { λ r. ⌜ r ≡ sumsDone job board kept (now (flash .entry)) (now (d .entry)) ⌝ }
 {
-    let answer = o.answer;
-    let mut s = o.session;
-    s.sums = sums;
-    Outcome {
-        answer: answer,
-        count: o.count,
-        session: s,
+    match job {
+        Job::Nothing => kept,
+        Job::Bytes { at, skip } => {
+            let n = (d.len() - skip as usize) as u32;
+            sums_after(board, kept, flash, at, n)
+        }
+        Job::Wipe { first, count } => {
+            let stop = Block(first.0 + count);
+            let end = session::app_end(board);
+            sums::refresh(kept, flash, board.a, end, first, stop)
+        }
     }
 }
 
-// The one function above `flash` that is lent flash to be changed.
-pub fn carry_out(plan: Plan, flash: &mut [u8], d: &[u8]) -> Outcome
-    requires { ⌜ Can (plan .job) (plan .outcome .session .board) (now flash) (now d) ⌝ }
-    ensures { λ r. ⌜ done r (now (flash .exit)) ≡ jobDone (plan .job) (plan .outcome) (now (flash .entry)) (now (d .entry)) ⌝ }
+// What a call comes to once its job is done: the one place where a session is put together from what was decided. It is apart from
+// `carry_out`, so that the session's copy is not made before flash has changed: the compiler would keep both.
+pub fn finished(s: Session, x: Decision, flash: &[u8], d: &[u8]) -> Outcome
+    requires { ⌜ Can (x .job) (s .board) (now flash) (now d) ⌝ }
+    ensures { λ r. ⌜ r ≡ summed (heardAt s (x .heard)) (sumsDone (x .job) (s .board) (s .sums) (now (flash .entry)) (now (d .entry))) ⌝ }
 {
-    let o = plan.outcome;
-    let board = o.session.board;
-    let kept = o.session.sums;
-    let job = plan.job;
-    match job {
-        Job::Nothing => o,
-        Job::Bytes { at, skip } => {
-            let from = skip as usize;
-            let bytes = &d[from..];
-            flash::program(flash, at, bytes);
-            let n = bytes.len() as u32;
-            with_sums(o, sums_after(board, kept, flash, at, n))
-        }
-        Job::Wipe { first, count } => {
-            flash::erase(flash, first, count);
-            let stop = Block(first.0 + count);
-            let end = session::app_end(board);
-            with_sums(o, sums::refresh(kept, flash, board.a, end, first, stop))
-        }
+    let job = x.job;
+    let sums = sums_done(job, s.board, s.sums, flash, d);
+    let heard = x.heard;
+    let answer = heard.answer;
+    let talk = heard.talk;
+    let board = s.board;
+    let phase = talk.phase;
+    let down = talk.down;
+    let up = talk.up;
+    Outcome {
+        answer: answer,
+        count: heard.count,
+        session: Session {
+            board: board,
+            phase: phase,
+            down: down,
+            up: up,
+            sums: sums,
+        },
     }
 }

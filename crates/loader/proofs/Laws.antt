@@ -13,9 +13,10 @@ use Rattle.flash.specs.Flash.{startOf, endsAt, carried}
 use Rattle.flash.proofs.Reaching.{ends-at}
 use Rattle.sums.specs.Sum.{Split}
 use Rattle.session.specs.Codes.{idle, downloadIdle, uploadIdle}
-use Rattle.session.specs.Session.{allowedSplit, boardOf, appEnd, streamLength}
+use Rattle.session.specs.Session.{allowedSplit, boardOf, appEnd, streamLength, withTalk}
 use Rattle.session.specs.Rules.{fitOf, splitRule}
 use Rattle.session.specs.declared.Board.{Board}
+use Rattle.session.specs.declared.Talk.{Talk}
 use Rattle.session.specs.declared.Session.{Session}
 use Rattle.session.proofs.Laws.{fit-facts, split-facts, end-in-flash, end-after-start, stream-most}
 use Rattle.session.proofs.Tests.{left-of, right-of, either, pick-most}
@@ -23,12 +24,13 @@ use Rattle.request.specs.Request.{requestOf, wLength, dataAsked, allowedOf}
 use Rattle.request.specs.declared.Request.{Request}
 use Rattle.stream.proofs.Laws.{next-length}
 use Rattle.answers.specs.declared.Answer.{Answer}
+use Rattle.answers.specs.declared.Heard.{Heard}
 use Rattle.answers.specs.declared.Outcome.{Outcome}
-use Rattle.answers.specs.Answers.{Done, Replied, outcome, done, replied, leaves}
-use Rattle.jobs.specs.declared.Plan.{Plan}
+use Rattle.answers.specs.Answers.{Done, Replied, outcome, done, replied, leaves, heard, heardAt}
+use Rattle.jobs.specs.declared.Decision.{Decision}
 use Rattle.jobs.specs.declared.Job.{Job}
-use Rattle.jobs.specs.Job.{planOf, Can, jobDone}
-use Rattle.jobs.proofs.Laws.{stores-made}
+use Rattle.jobs.specs.Job.{Plan, planOf, decisionOf, planned, Can, storesFor, sumsDone, summed, jobDone}
+use Rattle.jobs.proofs.Laws.{only-at, stores-made, job-left}
 use Rattle.command.specs.Ready.{Ready, Loading}
 use Rattle.command.specs.Download.{dnloadOf}
 use Rattle.command.proofs.Laws.{pick, dnload-can}
@@ -43,6 +45,15 @@ pub answered-by :
     → replied (outcome Answer.Taken n s) after ≡ answered s bytes before
 unfolding answered
 answered-by s bytes before after n p q = ap₂ (λ (k : ℕ) (l : List ℕ). replied (outcome Answer.Taken k s) l) p q
+
+-- the same from what is heard, at the session that the talk leads to
+pub answered-at :
+    (s t : Session) (bytes before after : List ℕ) (talk : Talk) (h : Heard) → h ≡ heard Answer.Taken (length bytes) talk
+    → after ≡ bytes ++ drop (length bytes) before → withTalk s talk ≡ t → replied (heardAt s h) after ≡ answered t bytes before
+answered-at s t bytes before after talk h e q p =
+    ap (λ (y : Heard). replied (heardAt s y) after) e
+    ∙ answered-by (withTalk s talk) bytes before after (length bytes) refl q
+    ∙ ap (λ (y : Session). answered y bytes before) p
 
 -- where an upload stands, and how far an answer takes it
 module _ (s : Session) (f : List ℕ) (r : Ready s f) where
@@ -137,21 +148,26 @@ pub as-told :
     → x ≡ served r s f n d b
 as-told r q s f n d b x told e = e ∙ sym (ap (λ (y : Request). served y s f n d b) told)
 
--- an outcome alone, from its calls
-pub only-told : (p : Plan) (o w : Outcome) (b : List ℕ) → p ≡ planOf o Job.Nothing → o ≡ w → decided p b ≡ only w b
-only-told p o w b e q = ap (λ (y : Plan). decided y b) (e ∙ ap (λ (y : Outcome). planOf y Job.Nothing) q)
+-- what leaves flash alone, from its calls, with no reply and with one
+module _ (s : Session) (x : Decision) (h : Heard) (b : List ℕ) (e : x ≡ decisionOf h Job.Nothing) where
+  pub only-told : (w : Outcome) → heardAt s h ≡ w → decided (planned s x) b ≡ only w b
+  only-told w q = ap (λ (y : Plan). decided y b) (only-at s w h x e q)
 
--- an outcome with a reply
-pub answer-told :
-    (p : Plan) (o : Outcome) (b : List ℕ) (w : Replied) → p ≡ planOf o Job.Nothing → replied o b ≡ w → decided p b ≡ answers w
-answer-told p o b w e q = ap (λ (y : Plan). decided y b) e ∙ ap answers q
+  pub answer-told : (w : Replied) → replied (heardAt s h) b ≡ w → decided (planned s x) b ≡ answers w
+  answer-told w q = ap (λ (y : Plan). decided y b) (ap (planned s) e) ∙ ap answers q
 
--- what is left once a plan is carried out, from what was decided
+-- what is left once a decision is carried out and its sums are made
 pub so-settled :
-    (plan : Plan) (o : Outcome) (f d g b : List ℕ) (x : Decided) → done o g ≡ jobDone (plan .job) (plan .outcome) f d
-    → decided plan b ≡ x → leaves o g b ≡ settled x f d
+    (s : Session) (x : Decision) (o : Outcome) (f d g b : List ℕ) (w : Decided) → Can (x .job) (s .board) f d
+    → g ≡ carried f (storesFor (x .job) d)
+    → o ≡ summed (heardAt s (x .heard)) (sumsDone (x .job) (s .board) (s .sums) g d)
+    → decided (planned s x) b ≡ w
+    → leaves o g b ≡ settled w f d
 unfolding settled
-so-settled plan o f d g b x e q = ap (λ (y : Done). withReply y b) e ∙ ap (λ (y : Decided). settled y f d) q
+so-settled s x o f d g b w can p e q =
+    ap (λ (y : Outcome). leaves y g b) e
+    ∙ ap (λ (y : Done). withReply y b) (job-left (x .job) (heardAt s (x .heard)) f d g can p)
+    ∙ ap (λ (y : Decided). settled y f d) q
 
 -- what is decided can be carried out
 module _ (s : Session) (f setup d reply : List ℕ) where
@@ -187,6 +203,12 @@ module _ (s : Session) (f setup d reply : List ℕ) where
       pick Can-do (allowedOf (requestOf setup) (wLength setup) (s .phase .state .0)) _ _
       (λ a. served-do (requestOf setup) (ready-fit s f setup (length d) (length reply) e) a) (λ _. tt))
       (λ _. tt)
+
+  -- the same of a decision, once it is told that it is the one
+  pub decision-can :
+      (x : Decision) (b : List ℕ) → decided (planned s x) b ≡ decidedOf s f setup d reply → Can (x .job) (s .board) f d
+  decision-can x b e =
+      subst⁻¹ (λ (y : Decided). Can (y .plan .job) (y .plan .outcome .session .board) f d) e decided-can
 
   -- the flash that a call leaves is that of its single stores, one after another
   pub step-stores : stepOf s f setup d reply .flash ≡ carried f (storesOf s f setup d reply)

@@ -18,9 +18,8 @@ use Rattle.answers.specs.declared.Outcome.{Outcome}
 use Rattle.answers.specs.Answers.{Leaves, Told, Done, Replied, outcome, leaves, told}
 use Rattle.answers.specs.Moves.{toIdle, takenOf, stallOf, unfitOf}
 use Rattle.loader.specs.Reply.{getstatusOf, getstateOf, queryOf}
-use Rattle.jobs.specs.declared.Plan.{Plan}
 use Rattle.jobs.specs.declared.Job.{Job}
-use Rattle.jobs.specs.Job.{planOf, storesFor, jobDone}
+use Rattle.jobs.specs.Job.{Plan, planOf, storesFor, jobDone}
 use Rattle.command.specs.Ready.{Ready}
 use Rattle.command.specs.Download.{dnloadOf}
 use Rattle.loader.specs.Upload.{uploadOf}

@@ -2,7 +2,7 @@
 use answers::Answer;
 use answers::Outcome;
 use flash::Block;
-use jobs::Plan;
+use jobs::Decision;
 use request::Request;
 use session::Board;
 use session::Session;
@@ -11,6 +11,7 @@ ghost use mathlib.Core.Bool.{true};
 ghost use lib.ListN.{length};
 ghost use Rattle.request.specs.Request.{requestOf, wLength, allowedOf};
 ghost use Rattle.answers.specs.Answers.{leaves, told};
+ghost use Rattle.jobs.specs.Job.{planned};
 ghost use Rattle.loader.specs.Step.{startable, startOutcome, ready, decided, served, decidedOf, stepOf, Served};
 
 mod reply;
@@ -60,9 +61,9 @@ fn is_ready(s: Session, flash_len: usize, setup: &[u8], data_len: usize, reply_l
 }
 
 // What an allowed request does.
-fn serve(r: Request, s: Session, flash: &[u8], asked: u32, d: &[u8], reply: &mut [u8]) -> Plan
+fn serve(r: Request, s: Session, flash: &[u8], asked: u32, d: &[u8], reply: &mut [u8]) -> Decision
     requires { ⌜ Served r s (now flash) asked (length (now reply)) ⌝ }
-    ensures { λ p. ⌜ decided p (now (reply .exit)) ≡ served r s (now (flash .entry)) asked (now (d .entry)) (now (reply .entry)) ⌝ }
+    ensures { λ x. ⌜ decided (planned s x) (now (reply .exit)) ≡ served r s (now (flash .entry)) asked (now (d .entry)) (now (reply .entry)) ⌝ }
 {
     match r {
         Request::Dnload => command::dnload(s, flash, d),
@@ -77,8 +78,8 @@ fn serve(r: Request, s: Session, flash: &[u8], asked: u32, d: &[u8], reply: &mut
 }
 
 // What a request does, well formed or not, in any state. Flash is only read: it can't change before every check has passed.
-fn decide(s: Session, flash: &[u8], setup: &[u8], d: &[u8], reply: &mut [u8]) -> Plan
-    ensures { λ p. ⌜ decided p (now (reply .exit))
+fn decide(s: Session, flash: &[u8], setup: &[u8], d: &[u8], reply: &mut [u8]) -> Decision
+    ensures { λ x. ⌜ decided (planned s x) (now (reply .exit))
         ≡ decidedOf s (now (flash .entry)) (now (setup .entry)) (now (d .entry)) (now (reply .entry)) ⌝ }
 {
     if !is_ready(s, flash.len(), setup, d.len(), reply.len()) {
@@ -92,11 +93,13 @@ fn decide(s: Session, flash: &[u8], setup: &[u8], d: &[u8], reply: &mut [u8]) ->
     serve(r, s, flash, asked, d, reply)
 }
 
-// One request: decided, then carried out.
+// One request: decided, then carried out, and then its sums are made.
 pub fn step(s: Session, flash: &mut [u8], setup: &[u8], d: &[u8], reply: &mut [u8]) -> Outcome
     ensures { λ r. ⌜ leaves r (now (flash .exit)) (now (reply .exit))
         ≡ stepOf s (now (flash .entry)) (now (setup .entry)) (now (d .entry)) (now (reply .entry)) ⌝ }
 {
-    let plan = decide(s, flash, setup, d, reply);
-    jobs::carry_out(plan, flash, d)
+    let x = decide(s, flash, setup, d, reply);
+    let job = x.job;
+    jobs::carry_out(job, flash, d);
+    jobs::finished(s, x, flash, d)
 }

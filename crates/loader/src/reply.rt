@@ -1,26 +1,39 @@
 // The requests that answer bytes but stream none: GETSTATUS, GETSTATE and the query.
 use answers::Answer;
-use answers::Outcome;
+use answers::Heard;
 use session::Phase;
 use session::Session;
 use session::State;
+use session::Talk;
 ghost use Prim.Native.Nat.{_≤_};
 ghost use mathlib.Core.Path.{_≡_};
-ghost use lib.ListN.{length};
-ghost use Rattle.answers.specs.Answers.{replied};
+ghost use mathlib.Core.List.{_++_};
+ghost use lib.ListN.{length, drop};
+ghost use Rattle.session.specs.Session.{withTalk};
+ghost use Rattle.answers.specs.declared.Answer.{Answer};
+ghost use Rattle.answers.specs.Answers.{heard, heardAt, replied};
 ghost use Rattle.loader.specs.Reply.{answered, entered, polled, pollTime, getstatusOf, getstateOf, queryOf};
 
 // Taken, with the bytes at the front of the reply.
-fn answer(s: Session, bytes: &[u8], reply: &mut [u8]) -> Outcome
+fn answer(talk: Talk, bytes: &[u8], reply: &mut [u8]) -> Heard
     requires { ⌜ (length (now bytes) ≤ length (now reply)) × (length (now bytes) ≤ 1024) ⌝ }
-    ensures { λ r. ⌜ replied r (now (reply .exit)) ≡ answered s (now (bytes .entry)) (now (reply .entry)) ⌝ }
+    ensures { λ r. ⌜ r ≡ heard Answer.Taken (length (now (bytes .entry))) talk ⌝ }
+    ensures { λ _. ⌜ now (reply .exit) ≡ now (bytes .entry) ++ drop (length (now (bytes .entry))) (now (reply .entry)) ⌝ }
 {
     let n = bytes::copy(bytes, reply);
-    Outcome {
+    Heard {
         answer: Answer::Taken,
         count: n as u32,
-        session: s,
+        talk: talk,
     }
+}
+
+// The same, where the talk stays as it is.
+fn told(s: Session, bytes: &[u8], reply: &mut [u8]) -> Heard
+    requires { ⌜ (length (now bytes) ≤ length (now reply)) × (length (now bytes) ≤ 1024) ⌝ }
+    ensures { λ r. ⌜ replied (heardAt s r) (now (reply .exit)) ≡ answered s (now (bytes .entry)) (now (reply .entry)) ⌝ }
+{
+    answer(session::talk_of(s), bytes, reply)
 }
 
 // The state that a poll enters.
@@ -35,14 +48,20 @@ fn entered(phase: Phase) -> u8
     }
 }
 
-fn poll(s: Session) -> Session
-    ensures { λ r. ⌜ r ≡ polled s ⌝ }
+fn poll(s: Session) -> Talk
+    ensures { λ r. ⌜ withTalk s r ≡ polled s ⌝ }
 {
-    let mut t = s;
+    let mut phase = s.phase;
     let state = entered(s.phase);
-    t.phase.state.0 = state;
-    t.phase.after.0 = State::IDLE;
-    t
+    phase.state.0 = state;
+    phase.after.0 = State::IDLE;
+    let down = s.down;
+    let up = s.up;
+    Talk {
+        phase: phase,
+        down: down,
+        up: up,
+    }
 }
 
 // How long the host is to wait before it polls again.
@@ -52,9 +71,9 @@ fn poll_time(s: Session) -> u32
     0
 }
 
-pub fn getstatus(s: Session, reply: &mut [u8]) -> Outcome
+pub fn getstatus(s: Session, reply: &mut [u8]) -> Heard
     requires { ⌜ 1024 ≤ length (now reply) ⌝ }
-    ensures { λ r. ⌜ replied r (now (reply .exit)) ≡ getstatusOf s (now (reply .entry)) ⌝ }
+    ensures { λ r. ⌜ replied (heardAt s r) (now (reply .exit)) ≡ getstatusOf s (now (reply .entry)) ⌝ }
 {
     let wait = numbers::low3(poll_time(s));
     let bytes = [
@@ -68,18 +87,18 @@ pub fn getstatus(s: Session, reply: &mut [u8]) -> Outcome
     answer(poll(s), &bytes, reply)
 }
 
-pub fn getstate(s: Session, reply: &mut [u8]) -> Outcome
+pub fn getstate(s: Session, reply: &mut [u8]) -> Heard
     requires { ⌜ 1024 ≤ length (now reply) ⌝ }
-    ensures { λ r. ⌜ replied r (now (reply .exit)) ≡ getstateOf s (now (reply .entry)) ⌝ }
+    ensures { λ r. ⌜ replied (heardAt s r) (now (reply .exit)) ≡ getstateOf s (now (reply .entry)) ⌝ }
 {
     let bytes = [s.phase.state.0];
-    answer(s, &bytes, reply)
+    told(s, &bytes, reply)
 }
 
-pub fn query(s: Session, reply: &mut [u8]) -> Outcome
+pub fn query(s: Session, reply: &mut [u8]) -> Heard
     requires { ⌜ 1024 ≤ length (now reply) ⌝ }
-    ensures { λ r. ⌜ replied r (now (reply .exit)) ≡ queryOf s (now (reply .entry)) ⌝ }
+    ensures { λ r. ⌜ replied (heardAt s r) (now (reply .exit)) ≡ queryOf s (now (reply .entry)) ⌝ }
 {
     let bytes = [0x4D, 0x4C, 0x01, 0x20];
-    answer(s, &bytes, reply)
+    told(s, &bytes, reply)
 }

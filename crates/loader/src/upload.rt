@@ -1,14 +1,18 @@
 // UPLOAD: how an upload goes through the chosen stream.
 use answers::Answer;
-use answers::Outcome;
+use answers::Heard;
 use flash::Addr;
+use session::Download;
+use session::Phase;
 use session::Session;
 use session::State;
 use session::Status;
+use session::Talk;
 ghost use Prim.Native.Nat.{_+_, _≤_, _<_, _^_};
 ghost use mathlib.Core.Path.{_≡_};
 ghost use lib.ListN.{length};
-ghost use Rattle.answers.specs.Answers.{replied};
+ghost use Rattle.session.specs.Session.{withTalk};
+ghost use Rattle.answers.specs.Answers.{heardAt, replied};
 ghost use Rattle.command.specs.Ready.{Ready};
 ghost use Rattle.loader.specs.Upload.{placeOf, uploadEnds, uploadingAt, uploadedOf, uploadOf};
 
@@ -29,23 +33,29 @@ fn ends(asked: u32, given: u32) -> bool
     asked < 1024
 }
 
-fn uploading(s: Session, place: u32) -> Session
-    ensures { λ r. ⌜ r ≡ uploadingAt s place ⌝ }
+fn uploading(s: Session, place: u32) -> Talk
+    ensures { λ r. ⌜ withTalk s r ≡ uploadingAt s place ⌝ }
 {
-    let mut t = s;
-    t.phase.state.0 = State::UPLOAD_IDLE;
-    t.phase.status.0 = Status::OK;
-    t.phase.after.0 = State::IDLE;
-    t.down.place.0 = 0;
-    t.down.left = 0;
-    t.up.place = place;
-    t
+    let mut up = s.up;
+    up.place = place;
+    Talk {
+        phase: Phase {
+            state: State(State::UPLOAD_IDLE),
+            status: Status(Status::OK),
+            after: State(State::IDLE),
+        },
+        down: Download {
+            place: Addr(0),
+            left: 0,
+        },
+        up: up,
+    }
 }
 
-// The session after `given` bytes from place `from` on were answered.
-fn uploaded(s: Session, asked: u32, from: u32, given: u32) -> Session
+// The talk after `given` bytes from place `from` on were answered.
+fn uploaded(s: Session, asked: u32, from: u32, given: u32) -> Talk
     requires { ⌜ (from ≡ placeOf s) × (from + given < 2 ^ 32) ⌝ }
-    ensures { λ r. ⌜ r ≡ uploadedOf s asked given ⌝ }
+    ensures { λ r. ⌜ withTalk s r ≡ uploadedOf s asked given ⌝ }
 {
     if ends(asked, given) {
         return answers::idle(s);
@@ -53,16 +63,16 @@ fn uploaded(s: Session, asked: u32, from: u32, given: u32) -> Session
     uploading(s, from + given)
 }
 
-pub fn upload(s: Session, flash: &[u8], asked: u32, reply: &mut [u8]) -> Outcome
+pub fn upload(s: Session, flash: &[u8], asked: u32, reply: &mut [u8]) -> Heard
     requires { ⌜ Ready s (now flash) ⌝ }
     requires { ⌜ (asked ≤ 1024) × (1024 ≤ length (now reply)) ⌝ }
-    ensures { λ r. ⌜ replied r (now (reply .exit)) ≡ uploadOf s (now (flash .entry)) asked (now (reply .entry)) ⌝ }
+    ensures { λ r. ⌜ replied (heardAt s r) (now (reply .exit)) ≡ uploadOf s (now (flash .entry)) asked (now (reply .entry)) ⌝ }
 {
     let from = place(s);
     let n = stream::send(s.board, s.up, flash, from, asked, reply);
-    Outcome {
+    Heard {
         answer: Answer::Taken,
         count: n,
-        session: uploaded(s, asked, from, n),
+        talk: uploaded(s, asked, from, n),
     }
 }

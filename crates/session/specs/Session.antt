@@ -1,4 +1,5 @@
--- The session: its groups of fields, a setter for each that changes, the fresh session and the session of zeros.
+-- The session: its groups of fields, a setter for each that changes and for the talk as a whole, the fresh session and the session of
+-- zeros.
 use Prim.Native.Nat.{ℕ, _+_, _-_, _*_}
 use mathlib.Core.Bool.{Bool, cond, _&&_}
 use lib.Dec.{eqb, leb, ltb}
@@ -12,6 +13,7 @@ use Rattle.session.specs.declared.Board.{Board}
 use Rattle.session.specs.declared.Phase.{Phase}
 use Rattle.session.specs.declared.Download.{Download}
 use Rattle.session.specs.declared.Upload.{Upload}
+use Rattle.session.specs.declared.Talk.{Talk}
 use Rattle.session.specs.declared.Session.{Session}
 use Rattle.session.specs.Codes.{idle, ok}
 
@@ -77,9 +79,20 @@ withUp s up = record { board = s .board; phase = s .phase; down = s .down; up = 
 abbrev pub withSums : Session → Sums → Session
 withSums s sums = record { board = s .board; phase = s .phase; down = s .down; up = s .up; sums = sums }
 
+-- the talk of a session, and the session with another talk in the place of its own
+abbrev pub talkOf : Session → Talk
+talkOf s = record { phase = s .phase; down = s .down; up = s .up }
+
+abbrev pub withTalk : Session → Talk → Session
+withTalk s talk = record { board = s .board; phase = talk .phase; down = talk .down; up = talk .up; sums = s .sums }
+
 -- the upload of a fresh session: the flash stream with its prefix, over all of the application
 unfoldable pub wholeUpload : Board → Upload
 wholeUpload board = upOf flashStream 1 (board .a .0) ((appEnd board - board .a .0) * blockSize) 0
+
+-- the talk of a fresh session
+abbrev pub freshTalk : Board → Talk
+freshTalk board = record { phase = phaseOf idle ok idle; down = noDownload; up = wholeUpload board }
 
 -- the fresh session
 unfoldable pub freshOf : Board → Sums → Session

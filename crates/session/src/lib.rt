@@ -8,7 +8,7 @@ use sums::Sums;
 ghost use mathlib.Core.Path.{_≡_};
 ghost use mathlib.Core.Bool.{true};
 ghost use Rattle.session.specs.Codes.{columnOf};
-ghost use Rattle.session.specs.Session.{allowedSplit, boardOf, appEnd, streamLength, freshOf, zerosOf};
+ghost use Rattle.session.specs.Session.{allowedSplit, boardOf, appEnd, streamLength, talkOf, freshTalk, freshOf, zerosOf};
 ghost use Rattle.session.specs.Rules.{stateRule, statusRule, running, downloadRule, uploadRule};
 ghost use Rattle.session.specs.Rules.{afterRule, inApplication, rangeRule, placeRule, flagsRule, fitOf};
 
@@ -114,6 +114,14 @@ impl Upload {
     pub const INFO_BYTES: u8 = 1;
 }
 
+// Where the talk with the host stands: all of a session that a decision changes. What is decided hands on this and no session, since the
+// sums of all blocks are large, and each session that is handed back would be a copy of them on the stack.
+pub struct Talk {
+    pub phase: Phase,
+    pub down: Download,
+    pub up: Upload,
+}
+
 #[repr(C)]
 pub struct Session {
     pub board: Board,
@@ -151,8 +159,50 @@ fn stream_length(up: Upload) -> u64
     }
 }
 
+// The talk as a session has it.
+pub fn talk_of(s: Session) -> Talk
+    ensures { λ r. ⌜ r ≡ talkOf s ⌝ }
+{
+    let phase = s.phase;
+    let down = s.down;
+    let up = s.up;
+    Talk {
+        phase: phase,
+        down: down,
+        up: up,
+    }
+}
+
+// The talk after a fresh start or RESET.
+pub fn fresh_talk(board: Board) -> Talk
+    requires { ⌜ allowedSplit (board .a .0) (board .b .0) ≡ true ⌝ }
+    ensures { λ r. ⌜ r ≡ freshTalk board ⌝ }
+{
+    let first = board.a;
+    let end = app_end(board);
+    let len = end.start().0 - first.start().0;
+    Talk {
+        phase: Phase {
+            state: State(State::IDLE),
+            status: Status(Status::OK),
+            after: State(State::IDLE),
+        },
+        down: Download {
+            place: Addr(0),
+            left: 0,
+        },
+        up: Upload {
+            choice: Upload::FLASH_STREAM,
+            prefix: 1,
+            first: first,
+            len: len,
+            place: 0,
+        },
+    }
+}
+
 impl Session {
-    // The session after a fresh start or RESET.
+    // The session after a fresh start.
     pub fn fresh(a: Block, b: Block, part0: u32, part1: u32, sums: Sums) -> Session
         requires { ⌜ allowedSplit (a .0) (b .0) ≡ true ⌝ }
         ensures { λ r. ⌜ r ≡ freshOf (boardOf (a .0) (b .0) part0 part1) sums ⌝ }
@@ -163,26 +213,15 @@ impl Session {
             part0: part0,
             part1: part1,
         };
-        let end = app_end(board);
-        let len = end.start().0 - a.start().0;
+        let talk = fresh_talk(board);
+        let phase = talk.phase;
+        let down = talk.down;
+        let up = talk.up;
         Session {
             board: board,
-            phase: Phase {
-                state: State(State::IDLE),
-                status: Status(Status::OK),
-                after: State(State::IDLE),
-            },
-            down: Download {
-                place: Addr(0),
-                left: 0,
-            },
-            up: Upload {
-                choice: Upload::FLASH_STREAM,
-                prefix: 1,
-                first: a,
-                len: len,
-                place: 0,
-            },
+            phase: phase,
+            down: down,
+            up: up,
             sums: sums,
         }
     }

@@ -1,5 +1,7 @@
 -- A fit session has a split that a start allows. Assumes nothing.
 use mathlib.Core.Path.{ap}
+use Rattle.session.specs.Session.{freshOf, withTalk}
+use Rattle.session.specs.declared.Talk.{Talk}
 use Rattle.session.proofs.Laws.{fit-kept}
 use Rattle.answers.specs.Answers.{outcome}
 use Rattle.answers.specs.declared.Answer.{Answer}
@@ -7,12 +9,14 @@ use Rattle.answers.specs.Moves.{resetOf}
 use Rattle.answers.proofs.reset.Statement.{statement}
 use Rattle.answers.proofs.reset.Tie as tie
 
-fresh-requires : tie.Need-fresh-requires
-fresh-requires c κs = fit-kept _ (c .before .before .pre) .split
+fresh-talk-requires : tie.Need-fresh-talk-requires
+fresh-talk-requires c κs = fit-kept _ (c .pre) .split
 
 returns : tie.Need-returns
-unfolding resetOf
-returns c = ap (outcome Answer.ResetAsked 0) (c .fresh .ensures)
+unfolding resetOf freshOf
+returns c =
+    let s = c .before .args .s in
+    ap (λ (t : Talk). outcome Answer.ResetAsked 0 (withTalk s t)) (c .fresh-talk .ensures)
 
 pub reset-spec : {M : Type 1} → statement M
-reset-spec = tie.close (tie.spec fresh-requires returns)
+reset-spec = tie.close (tie.spec fresh-talk-requires returns)

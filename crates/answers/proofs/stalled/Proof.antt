@@ -1,13 +1,21 @@
 -- By whether the state is error. Assumes nothing.
+use mathlib.Core.Path.{ap}
+use Rattle.session.specs.Session.{withTalk}
+use Rattle.session.specs.declared.Talk.{Talk}
+use Rattle.answers.specs.Answers.{outcome}
+use Rattle.answers.specs.declared.Answer.{Answer}
 use Rattle.answers.specs.Moves.{stallOf}
 use borrow.Author.Tests.{eq-eqb, ne-eqb}
 use borrow.Author.Needs.{needs}
 use Rattle.answers.proofs.stalled.Statement.{statement}
 use Rattle.answers.proofs.stalled.Tie as tie
 
+talk-of-requires : tie.Need-talk-of-requires
+talk-of-requires c κs = search needs
+
 returns : tie.Need-returns
 unfolding stallOf
-returns c = rw (eq-eqb _ _ (c .if1 .taken))
+returns c = rw (eq-eqb _ _ (c .before .if1 .taken), c .talk-of .ensures)
 
 error-requires : tie.Need-error-requires
 error-requires c κs = search needs
@@ -17,4 +25,4 @@ unfolding stallOf
 returns-2 c = rw (ne-eqb _ _ (c .before .if1 .left), c .error .ensures)
 
 pub stalled-spec : {M : Type 1} → statement M
-stalled-spec = tie.close (tie.spec returns error-requires returns-2)
+stalled-spec = tie.close (tie.spec talk-of-requires returns error-requires returns-2)

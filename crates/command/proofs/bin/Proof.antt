@@ -4,6 +4,7 @@ use Prim.Native.Nat.{ℕ}
 use Rattle.session.specs.Session.{withUp, upOf, noDownload}
 use Rattle.command.specs.Download.{binOf}
 use Rattle.answers.specs.Moves.{movedTo, takenOf, toSync}
+use Rattle.answers.proofs.Laws.{taken-at}
 use borrow.Author.Needs.{needs}
 use Rattle.command.proofs.bin.Statement.{statement}
 use Rattle.command.proofs.bin.Tie as tie
@@ -22,8 +23,7 @@ unfolding binOf movedTo
 returns c =
     let s = c .before .before .before .before .args .s in
     let told = c .before .before .before .prefix-for .ensures in
-    c .taken .ensures
-    ∙ ap takenOf (c .before .sync .ensures)
+    taken-at s _ _ _ (c .taken .ensures) (c .before .sync .ensures)
     ∙ ap (λ (p : ℕ). takenOf (toSync (withUp s (upOf (s .up .choice) p (s .up .first .0) (s .up .len) 0)) 2 noDownload)) told
 
 pub bin-spec : {M : Type 1} → statement M

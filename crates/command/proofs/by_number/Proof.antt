@@ -2,9 +2,7 @@
 use Prim.Native.Nat.{ℕ, _-_}
 use mathlib.Core.Path.{sym, ap, ap₂, _∙_}
 use lib.ListN.{length}
-use Rattle.answers.specs.declared.Outcome.{Outcome}
-use Rattle.jobs.specs.declared.Job.{Job}
-use Rattle.jobs.specs.Job.{planOf}
+use Rattle.jobs.proofs.Laws.{only-at}
 use Rattle.command.proofs.Laws.{last-command}
 use Rattle.command.specs.Download.{byNumber, progOf, readOf, checkOf, eraseOf}
 use borrow.Author.Needs.{needs}
@@ -83,8 +81,7 @@ returns-2 c =
     let l = m .before in
     let s = l .before .before .before .before .before in
     let told = c .before .read .ensures ∙ ap₂ (readOf (s .args .s)) (l .before .word .ensures .0) (l .long .ensures) in
-    c .only .ensures
-    ∙ ap (λ (o : Outcome). planOf o Job.Nothing) told
+    only-at (s .args .s) _ _ _ (c .only .ensures) told
     ∙ sym (ap (λ (k : ℕ). byNumber k (s .args .s) (s .args .flash .now) (s .args .d .now)) (m .match .keys2))
 
 returns-3 : tie.Need-returns-3
@@ -95,8 +92,7 @@ returns-3 c =
     let s = l .before .before .before .before .before in
     let f = s .args .flash .now in
     let told = c .before .check .ensures ∙ ap₂ (checkOf (s .args .s) f) (l .before .word .ensures .0) (l .long .ensures) in
-    c .only2 .ensures
-    ∙ ap (λ (o : Outcome). planOf o Job.Nothing) told
+    only-at (s .args .s) _ _ _ (c .only2 .ensures) told
     ∙ sym (ap (λ (k : ℕ). byNumber k (s .args .s) (s .args .flash .now) (s .args .d .now)) (m .match .keys3))
 
 returns-4 : tie.Need-returns-4
@@ -115,8 +111,7 @@ returns-5 c =
     let m = c .before .before in
     let l = m .before in
     let s = l .before .before .before .before .before in
-    c .only3 .ensures
-    ∙ ap (λ (o : Outcome). planOf o Job.Nothing) (c .before .info .ensures)
+    only-at (s .args .s) _ _ _ (c .only3 .ensures) (c .before .info .ensures)
     ∙ sym (ap (λ (k : ℕ). byNumber k (s .args .s) (s .args .flash .now) (s .args .d .now)) (m .match .keys5))
 
 returns-6 : tie.Need-returns-6
@@ -125,8 +120,7 @@ returns-6 c =
     let m = c .before .before .before in
     let l = m .before in
     let s = l .before .before .before .before .before in
-    c .only4 .ensures
-    ∙ ap (λ (o : Outcome). planOf o Job.Nothing) (c .before .bin .ensures)
+    only-at (s .args .s) _ _ _ (c .only4 .ensures) (c .before .bin .ensures)
     ∙ sym (ap (λ (k : ℕ). byNumber k (s .args .s) (s .args .flash .now) (s .args .d .now)) (m .match .keys6))
 
 returns-7 : tie.Need-returns-7
@@ -135,8 +129,7 @@ returns-7 c =
     let l = m .before in
     let s = l .before .before .before .before .before in
     let r = m .match .rest in
-    c .only5 .ensures
-    ∙ ap (λ (o : Outcome). planOf o Job.Nothing) (c .before .reset .ensures)
+    only-at (s .args .s) _ _ _ (c .only5 .ensures) (c .before .reset .ensures)
     ∙ sym (last-command _ (s .args .s) (s .args .flash .now) (s .args .d .now) (r .0 .0 .0 .0 .0 .1) (r .0 .0 .0 .0 .1) (r .0 .0 .0 .1)
     (r .0 .0 .1) (r .0 .1) (r .1))
 

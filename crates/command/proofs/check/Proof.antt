@@ -1,8 +1,7 @@
 -- Each answer by the tests that led to it. Assumes nothing.
-use mathlib.Core.Path.{ap, _∙_}
 use Rattle.jobs.proofs.Picks.{yes-is, no-is, refused, passed, told}
 use Rattle.command.specs.Download.{checkOf}
-use Rattle.answers.specs.Moves.{takenOf}
+use Rattle.answers.proofs.Laws.{taken-at}
 use Rattle.command.proofs.Laws.{ready-range}
 use borrow.Author.Needs.{needs}
 use Rattle.command.proofs.check.Statement.{statement}
@@ -36,7 +35,7 @@ returns-2 c =
     let e = c .before .before in
     let i = e .before .before in
     yes-is _ _ _ _ (passed _ _ (i .before .in-application .ensures) (i .if1 .left))
-    (yes-is _ _ _ _ (told _ _ _ (e .before .erased .ensures) (e .if2 .taken)) (c .taken .ensures ∙ ap takenOf (c .before .sync .ensures)))
+    (yes-is _ _ _ _ (told _ _ _ (e .before .erased .ensures) (e .if2 .taken)) (taken-at (i .before .before .before .args .s) _ _ _ (c .taken .ensures) (c .before .sync .ensures)))
 
 faulted-requires-2 : tie.Need-faulted-requires-2
 faulted-requires-2 c κs = search needs

@@ -1,9 +1,8 @@
 -- By whether bytes are missing. Assumes nothing.
-use mathlib.Core.Path.{ap, _∙_}
 use borrow.Author.Tests.{eq-eqb, ne-eqb}
 use Rattle.jobs.proofs.Picks.{yes-is, no-is}
 use Rattle.command.specs.Download.{closedOf}
-use Rattle.answers.specs.Moves.{takenOf}
+use Rattle.answers.proofs.Laws.{taken-at}
 use borrow.Author.Needs.{needs}
 use Rattle.command.proofs.close.Statement.{statement}
 use Rattle.command.proofs.close.Tie as tie
@@ -23,7 +22,9 @@ taken-requires c κs = search needs
 
 returns-2 : tie.Need-returns-2
 unfolding closedOf
-returns-2 c = yes-is _ _ _ _ (eq-eqb _ _ (c .before .before .if1 .left)) (c .taken .ensures ∙ ap takenOf (c .before .manifest .ensures))
+returns-2 c =
+    let i = c .before .before in
+    yes-is _ _ _ _ (eq-eqb _ _ (i .if1 .left)) (taken-at (i .before .before .args .s) _ _ _ (c .taken .ensures) (c .before .manifest .ensures))
 
 pub close-spec : {M : Type 1} → statement M
 close-spec =

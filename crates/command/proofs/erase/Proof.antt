@@ -2,7 +2,7 @@
 use mathlib.Core.Path.{ap, _∙_}
 use Rattle.session.specs.Rules.{inApplication}
 use Rattle.answers.specs.declared.Outcome.{Outcome}
-use Rattle.answers.specs.Moves.{takenOf}
+use Rattle.answers.proofs.Laws.{taken-at}
 use Rattle.jobs.specs.Job.{planOf, wipeOf}
 use Rattle.jobs.proofs.Picks.{yes-is, no-is, refused, passed}
 use Rattle.command.specs.Download.{eraseOf}
@@ -41,7 +41,7 @@ returns-2 c =
     let told = i .in-application .ensures ∙ ap (inApplication (s .args .s .board) (s .args .block .0)) (i .before .start .ensures) in
     yes-is _ _ _ _ (passed _ _ told (c .before .before .if1 .left))
     (ap (λ (o : Outcome). planOf o (wipeOf (s .args .block .0) (s .args .count)))
-    (c .taken .ensures ∙ ap takenOf (c .before .sync .ensures)))
+    (taken-at (s .args .s) _ _ _ (c .taken .ensures) (c .before .sync .ensures)))
 
 pub erase-spec : {M : Type 1} → statement M
 erase-spec =

@@ -1,12 +1,9 @@
 -- A running download has its place in the application. Assumes nothing.
-use mathlib.Core.Path.{ap, _∙_}
 use mathlib.Core.Logic.{inl}
 use native.Mathlib.Omega.{arith}
 use borrow.Author.Tests.{le-leb, lt-leb, eq-eqb, ne-eqb}
 use Rattle.session.proofs.Laws.{fit-facts, fit-kept, split-facts, end-in-flash}
-use Rattle.answers.specs.declared.Outcome.{Outcome}
-use Rattle.jobs.specs.declared.Job.{Job}
-use Rattle.jobs.specs.Job.{planOf}
+use Rattle.jobs.proofs.Laws.{only-at}
 use Rattle.jobs.proofs.Picks.{yes-is, no-is}
 use Rattle.command.specs.Download.{pieceOf}
 use borrow.Author.Needs.{needs}
@@ -22,8 +19,8 @@ only-requires c κs = search needs
 returns : tie.Need-returns
 unfolding pieceOf
 returns c =
-    yes-is _ _ _ _ (eq-eqb _ _ (c .before .before .if1 .taken))
-    (c .only .ensures ∙ ap (λ (o : Outcome). planOf o Job.Nothing) (c .before .close .ensures))
+    let i = c .before .before in
+    yes-is _ _ _ _ (eq-eqb _ _ (i .if1 .taken)) (only-at (i .before .args .s) _ _ _ (c .only .ensures) (c .before .close .ensures))
 
 cast-if2 : tie.Need-cast-if2
 cast-if2 c = search needs

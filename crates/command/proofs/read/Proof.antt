@@ -1,8 +1,8 @@
 -- Each answer by the tests that led to it. Assumes nothing.
-use mathlib.Core.Path.{ap, _∙_}
 use Rattle.jobs.proofs.Picks.{yes-is, no-is, refused, passed}
 use Rattle.command.specs.Download.{readOf}
-use Rattle.answers.specs.Moves.{movedTo, takenOf}
+use Rattle.answers.specs.Moves.{movedTo}
+use Rattle.answers.proofs.Laws.{taken-at}
 use borrow.Author.Needs.{needs}
 use Rattle.command.proofs.read.Statement.{statement}
 use Rattle.command.proofs.read.Tie as tie
@@ -28,7 +28,7 @@ unfolding readOf movedTo
 returns-2 c =
     let i = c .before .before .before .before .before in
     yes-is _ _ _ _ (passed _ _ (i .before .in-application .ensures) (i .if1 .left))
-    (c .taken .ensures ∙ ap takenOf (c .before .sync .ensures))
+    (taken-at (i .before .before .args .s) _ _ _ (c .taken .ensures) (c .before .sync .ensures))
 
 pub read-spec : {M : Type 1} → statement M
 read-spec =

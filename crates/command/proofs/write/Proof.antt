@@ -1,7 +1,7 @@
 -- The outcome with its job. Assumes nothing.
-use mathlib.Core.Path.{ap, _∙_}
+use mathlib.Core.Path.{ap}
 use Rattle.answers.specs.declared.Outcome.{Outcome}
-use Rattle.answers.specs.Moves.{takenOf}
+use Rattle.answers.proofs.Laws.{taken-at}
 use Rattle.jobs.specs.Job.{planOf, bytesTo}
 use Rattle.command.specs.Download.{wroteOf}
 use borrow.Author.Needs.{needs}
@@ -21,7 +21,8 @@ returns : tie.Need-returns
 unfolding wroteOf
 returns c =
     let s = c .before .before .before in
-    ap (λ (o : Outcome). planOf o (bytesTo (s .args .at .0) (s .args .skip))) (c .taken .ensures ∙ ap takenOf (c .before .moved .ensures))
+    ap (λ (o : Outcome). planOf o (bytesTo (s .args .at .0) (s .args .skip)))
+    (taken-at (s .args .s) _ _ _ (c .taken .ensures) (c .before .moved .ensures))
 
 pub write-spec : {M : Type 1} → statement M
 write-spec = tie.close (tie.spec add-t8 moved-requires taken-requires returns)

@@ -10,8 +10,7 @@ use Rattle.session.specs.Session.{appEnd, downOf, noDownload, withSums}
 use Rattle.session.specs.declared.Session.{Session}
 use Rattle.answers.specs.Answers.{Leaves, Done, Replied, done, leaves}
 use Rattle.answers.specs.Moves.{movedTo, toSync, takenOf}
-use Rattle.jobs.specs.declared.Plan.{Plan}
-use Rattle.jobs.specs.Job.{planOf, wipeOf, sumsAfter, sumsWiped, bytesDone, wipeDone, jobDone}
+use Rattle.jobs.specs.Job.{Plan, planOf, wipeOf, sumsAfter, sumsWiped, bytesDone, wipeDone, jobDone}
 use Rattle.command.specs.Download.{wroteOf}
 use Rattle.loader.specs.Step.{decided, withReply, settled}
 

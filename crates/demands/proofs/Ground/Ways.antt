@@ -22,9 +22,8 @@ use Rattle.request.specs.declared.Request.{Request}
 use Rattle.answers.specs.declared.Outcome.{Outcome}
 use Rattle.answers.specs.Answers.{Leaves, leaves}
 use Rattle.answers.specs.Moves.{movedTo, toIdle, toSync, takenOf, stallOf, unfitOf, faultOf, resetOf}
-use Rattle.jobs.specs.declared.Plan.{Plan}
 use Rattle.jobs.specs.declared.Job.{Job}
-use Rattle.jobs.specs.Job.{planOf, jobDone}
+use Rattle.jobs.specs.Job.{Plan, planOf, jobDone}
 use Rattle.command.specs.Ready.{Ready}
 use Rattle.command.specs.Download.{allErased, progOf, readOf, checkOf, eraseOf, infoOf, binOf, wellFormed, byNumber, commandOf}
 use Rattle.command.specs.Download.{closedOf, pieceOf, dnloadOf}

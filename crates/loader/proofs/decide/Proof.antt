@@ -25,8 +25,10 @@ only-requires c κs = search needs
 returns : tie.Need-returns
 unfolding decidedOf
 returns c =
-    no-is _ _ _ _ (refused _ _ (c .before .before .before .is-ready .ensures) (c .before .before .if1 .taken))
-    (only-told _ _ _ _ (c .only .ensures) (c .before .unfit .ensures))
+    let y = c .before .before .before in
+    let s = y .before .before .before .before .before .args .s in
+    no-is _ _ _ _ (refused _ _ (y .is-ready .ensures) (c .before .before .if1 .taken))
+    (only-told s _ _ _ (c .only .ensures) _ (c .before .unfit .ensures))
 
 read-setup-requires : tie.Need-read-setup-requires
 read-setup-requires c κs = search needs
@@ -55,7 +57,7 @@ returns-2 c =
     let n = l .length-of .ensures in
     let test = a .allowed .ensures ∙ ap₂ (λ (q : Request) (k : ℕ). allowedOf q k (s .args .s .phase .state .0)) r n in
     yes-is _ _ _ _ (passed _ _ (y .is-ready .ensures) (i .if1 .left))
-    (no-is _ _ _ _ (refused _ _ test (c .before .before .if2 .taken)) (only-told _ _ _ _ (c .only2 .ensures) (c .before .stalled .ensures)))
+    (no-is _ _ _ _ (refused _ _ test (c .before .before .if2 .taken)) (only-told (s .args .s) _ _ _ (c .only2 .ensures) _ (c .before .stalled .ensures)))
 
 serve-requires : tie.Need-serve-requires
 serve-requires c κs =

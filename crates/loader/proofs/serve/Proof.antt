@@ -2,8 +2,8 @@
 use mathlib.Core.Path.{sym, ap, _∙_}
 use Rattle.request.specs.Request.{allowedOf}
 use Rattle.request.specs.declared.Request.{Request}
-use Rattle.answers.specs.Moves.{takenOf}
-use Rattle.jobs.specs.declared.Plan.{Plan}
+use Rattle.answers.proofs.Laws.{taken-at}
+use Rattle.jobs.specs.Job.{Plan}
 use Rattle.loader.specs.Step.{decided, served}
 use Rattle.loader.proofs.Laws.{allowed-loading, as-told, only-told, answer-told}
 use borrow.Author.Needs.{needs}
@@ -105,8 +105,10 @@ same-length c = search needs
 returns-2 : tie.Need-returns-2
 unfolding served
 returns-2 c =
-    let told = c .before .before .before .before .before .enum-told2 .given .1 in
-    as-told _ _ _ _ _ _ _ _ told (answer-told _ _ _ _ (c .only .ensures) (c .before .before .before .upload .ensures))
+    let t = c .before .before .before .before .before in
+    let s = t .before .before .before .before .before .args .s in
+    as-told _ _ _ _ _ _ _ _ (t .enum-told2 .given .1)
+    (answer-told s _ _ _ (c .only .ensures) _ (c .before .before .before .upload .ensures))
 
 same-length-2 : tie.Need-same-length-2
 same-length-2 c = search needs
@@ -114,14 +116,18 @@ same-length-2 c = search needs
 returns-3 : tie.Need-returns-3
 unfolding served
 returns-3 c =
-    let told = c .before .before .before .before .before .enum-told3 .given .1 in
-    as-told _ _ _ _ _ _ _ _ told (answer-told _ _ _ _ (c .only2 .ensures) (c .before .before .before .getstatus .ensures))
+    let t = c .before .before .before .before .before in
+    let s = t .before .before .before .before .before .args .s in
+    as-told _ _ _ _ _ _ _ _ (t .enum-told3 .given .1)
+    (answer-told s _ _ _ (c .only2 .ensures) _ (c .before .before .before .getstatus .ensures))
 
 returns-4 : tie.Need-returns-4
 unfolding served
 returns-4 c =
-    as-told _ _ _ _ _ _ _ _ (c .before .before .before .enum-told4 .given .1)
-    (only-told _ _ _ _ (c .only3 .ensures) (c .before .taken .ensures ∙ ap takenOf (c .before .before .idle .ensures)))
+    let t = c .before .before .before in
+    let s = t .before .before .before .before .before .args .s in
+    as-told _ _ _ _ _ _ _ _ (t .enum-told4 .given .1)
+    (only-told s _ _ _ (c .only3 .ensures) _ (taken-at s _ _ _ (c .before .taken .ensures) (c .before .before .idle .ensures)))
 
 same-length-3 : tie.Need-same-length-3
 same-length-3 c = search needs
@@ -129,14 +135,18 @@ same-length-3 c = search needs
 returns-5 : tie.Need-returns-5
 unfolding served
 returns-5 c =
-    let told = c .before .before .before .before .before .enum-told5 .given .1 in
-    as-told _ _ _ _ _ _ _ _ told (answer-told _ _ _ _ (c .only4 .ensures) (c .before .before .before .getstate .ensures))
+    let t = c .before .before .before .before .before in
+    let s = t .before .before .before .before .before .args .s in
+    as-told _ _ _ _ _ _ _ _ (t .enum-told5 .given .1)
+    (answer-told s _ _ _ (c .only4 .ensures) _ (c .before .before .before .getstate .ensures))
 
 returns-6 : tie.Need-returns-6
 unfolding served
 returns-6 c =
-    as-told _ _ _ _ _ _ _ _ (c .before .before .before .enum-told6 .given .1)
-    (only-told _ _ _ _ (c .only5 .ensures) (c .before .taken2 .ensures ∙ ap takenOf (c .before .before .idle2 .ensures)))
+    let t = c .before .before .before in
+    let s = t .before .before .before .before .before .args .s in
+    as-told _ _ _ _ _ _ _ _ (t .enum-told6 .given .1)
+    (only-told s _ _ _ (c .only5 .ensures) _ (taken-at s _ _ _ (c .before .taken2 .ensures) (c .before .before .idle2 .ensures)))
 
 same-length-4 : tie.Need-same-length-4
 same-length-4 c = search needs
@@ -144,13 +154,17 @@ same-length-4 c = search needs
 returns-7 : tie.Need-returns-7
 unfolding served
 returns-7 c =
-    let told = c .before .before .before .before .before .enum-told7 .given .1 in
-    as-told _ _ _ _ _ _ _ _ told (answer-told _ _ _ _ (c .only6 .ensures) (c .before .before .before .query .ensures))
+    let t = c .before .before .before .before .before in
+    let s = t .before .before .before .before .before .args .s in
+    as-told _ _ _ _ _ _ _ _ (t .enum-told7 .given .1)
+    (answer-told s _ _ _ (c .only6 .ensures) _ (c .before .before .before .query .ensures))
 
 returns-8 : tie.Need-returns-8
 unfolding served
 returns-8 c =
-    as-told _ _ _ _ _ _ _ _ (c .before .before .enum-told8 .given .1) (only-told _ _ _ _ (c .only7 .ensures) (c .before .stalled .ensures))
+    let t = c .before .before in
+    let s = t .before .before .before .before .before .args .s in
+    as-told _ _ _ _ _ _ _ _ (t .enum-told8 .given .1) (only-told s _ _ _ (c .only7 .ensures) _ (c .before .stalled .ensures))
 
 pub serve-spec : {M : Type 1} → statement M
 serve-spec =

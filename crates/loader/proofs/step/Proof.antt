@@ -1,8 +1,7 @@
--- What is decided can be carried out, and is. Assumes nothing.
-use mathlib.Core.Path.{subst⁻¹}
-use Rattle.jobs.specs.Job.{Can}
-use Rattle.loader.specs.Step.{Decided, stepOf}
-use Rattle.loader.proofs.Laws.{decided-can, so-settled}
+-- What is decided can be carried out, and is, and its sums are made of the flash that is left. Assumes nothing.
+use Rattle.jobs.proofs.Laws.{can-reaches, can-still}
+use Rattle.loader.specs.Step.{stepOf}
+use Rattle.loader.proofs.Laws.{decision-can, so-settled}
 use borrow.Author.Needs.{needs}
 use Rattle.loader.proofs.step.Statement.{statement}
 use Rattle.loader.proofs.step.Tie as tie
@@ -17,8 +16,19 @@ carry-out-requires c κs =
     let s = x .before .before .before .before in
     let f = s .args .flash .now in
     let d = s .args .d .now in
-    subst⁻¹ (λ (y : Decided). Can (y .plan .job) (y .plan .outcome .session .board) f d) (v .decide .ensures)
-    (decided-can (s .args .s) f (s .args .setup .now) d (s .args .reply .now))
+    can-reaches (v .decide .result .job) (s .args .s .board) f d
+    (decision-can (s .args .s) f (s .args .setup .now) d (s .args .reply .now) _ _ (v .decide .ensures))
+
+finished-requires : tie.Need-finished-requires
+finished-requires c κs =
+    let o = c .before .before .before in
+    let v = o .before .before .before .before in
+    let x = v .before .before .before in
+    let s = x .before .before .before .before in
+    let f = s .args .flash .now in
+    let d = s .args .d .now in
+    can-still (v .decide .result .job) (s .args .s .board) f _ d (o .carry-out .kept .1 .0)
+    (decision-can (s .args .s) f (s .args .setup .now) d (s .args .reply .now) _ _ (v .decide .ensures))
 
 same-length : tie.Need-same-length
 same-length c = search needs
@@ -29,12 +39,16 @@ same-length-2 c = search needs
 returns : tie.Need-returns
 unfolding stepOf
 returns c =
-    let o = c .before .before in
+    let o = c .before .before .before .before in
     let v = o .before .before .before .before in
     let x = v .before .before .before in
     let s = x .before .before .before .before in
-    so-settled _ _ (s .args .flash .now) (s .args .d .now) _ _ _ (o .carry-out .ensures) (v .decide .ensures)
+    let f = s .args .flash .now in
+    let d = s .args .d .now in
+    so-settled (s .args .s) (v .decide .result) _ f d _ _ _
+    (decision-can (s .args .s) f (s .args .setup .now) d (s .args .reply .now) _ _ (v .decide .ensures)) (o .carry-out .ensures) (c .finished .ensures) (v .decide .ensures)
 
 pub step-spec : {M : Type 1} → statement M
 step-spec =
-    tie.close (tie.spec decide-requires carry-out-requires same-length same-length-2 returns)
+    tie.close
+    (tie.spec decide-requires carry-out-requires finished-requires same-length same-length-2 returns)

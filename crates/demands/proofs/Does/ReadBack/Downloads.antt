@@ -25,8 +25,7 @@ use Rattle.request.specs.Request.{allowedOf}
 use Rattle.stream.specs.Stream.{headerOf}
 use Rattle.answers.specs.Answers.{Done, leaves}
 use Rattle.answers.specs.Moves.{movedTo, takenOf}
-use Rattle.jobs.specs.Job.{sumsAfter, jobDone}
-use Rattle.jobs.specs.declared.Plan.{Plan}
+use Rattle.jobs.specs.Job.{Plan, sumsAfter, jobDone}
 use Rattle.command.specs.Download.{nothing, allErased, progOf, wellFormed, byNumber, pieceOf, dnloadOf}
 use Rattle.loader.specs.Reply.{entered, polled}
 use Rattle.loader.specs.Step.{withReply, stepOf, settled}

@@ -20,8 +20,7 @@ use Rattle.numbers.proofs.Laws.{four-bytes}
 use Rattle.request.specs.Request.{allowedOf}
 use Rattle.answers.specs.Answers.{Done, leaves}
 use Rattle.answers.specs.Moves.{movedTo, toSync, takenOf}
-use Rattle.jobs.specs.Job.{jobDone, wipeDone, sumsWiped}
-use Rattle.jobs.specs.declared.Plan.{Plan}
+use Rattle.jobs.specs.Job.{Plan, jobDone, wipeDone, sumsWiped}
 use Rattle.command.specs.Ready.{Ready}
 use Rattle.command.specs.Download.{dnloadOf, commandOf, byNumber, wellFormed, readOf, eraseOf}
 use Rattle.command.proofs.Laws.{long-enough}

@@ -3,7 +3,7 @@ use Prim.Native.Nat.{ℕ}
 use mathlib.Core.List.{List, [], _∷_, _++_}
 use mathlib.Core.Path.{ap, ap₂, _∙_}
 use Rattle.numbers.specs.Numbers.{bytes3}
-use Rattle.session.specs.declared.Session.{Session}
+use Rattle.loader.proofs.Laws.{answered-at}
 use Rattle.loader.specs.Reply.{answered, polled, getstatusOf}
 use borrow.Author.Needs.{needs}
 use Rattle.loader.proofs.reply.getstatus.Statement.{statement}
@@ -42,8 +42,8 @@ returns c =
     let w = l .low3 .result in
     let made : List ℕ → ℕ → List ℕ = λ x e. (status ∷ []) ++ x ++ (e ∷ 0 ∷ []) in
     let reply = s .args .reply .now in
-    k .answer .ensures
-    ∙ ap (λ (t : Session). answered t (made (w .0 ∷ w .1 ∷ w .2 ∷ []) (p .before .entered .result)) reply) (p .poll .ensures)
+    answered-at (s .args .s) _ (made (w .0 ∷ w .1 ∷ w .2 ∷ []) (p .before .entered .result)) _ _ _ _ (k .answer .ensures .0)
+    (k .answer .ensures .1) (p .poll .ensures)
     ∙ ap₂ (λ (x : List ℕ) (e : ℕ). answered (polled (s .args .s)) (made x e) reply) wait (p .before .entered .ensures)
 
 pub getstatus-spec : {M : Type 1} → statement M

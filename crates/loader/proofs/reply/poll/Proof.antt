@@ -13,8 +13,9 @@ entered-requires c κs = search needs
 returns : tie.Need-returns
 unfolding polled
 returns c =
-    let s = c .before .before .before .args .s in
-    ap (λ (x : ℕ). withPhase s (phaseOf x (s .phase .status .0) 2)) (c .before .before .entered .ensures)
+    let e = c .before .before .before .before in
+    let s = e .before .before .args .s in
+    ap (λ (x : ℕ). withPhase s (phaseOf x (s .phase .status .0) 2)) (e .entered .ensures)
 
 pub poll-spec : {M : Type 1} → statement M
 poll-spec = tie.close (tie.spec entered-requires returns)

@@ -1,43 +1,30 @@
--- The split is allowed, so both ends of the application are in reach and the first comes first.
-use Prim.Native.Nat.{ℕ, _-_, _*_}
-use mathlib.Core.Path.{_≡_}
-use native.Mathlib.Omega.{arith}
-use Rattle.session.specs.Session.{boardOf, appEnd, freshOf, wholeUpload}
-use Rattle.session.proofs.Laws.{split-facts, end-in-flash, end-after-start}
+-- The fresh talk between the board and the sums. Assumes nothing.
+use mathlib.Core.Path.{ap}
+use Rattle.session.specs.declared.Talk.{Talk}
+use Rattle.session.specs.declared.Session.{Session}
+use Rattle.session.specs.Session.{boardOf, freshOf}
 use borrow.Author.Needs.{needs}
 use Rattle.session.proofs.Session.fresh.Statement.{statement}
 use Rattle.session.proofs.Session.fresh.Tie as tie
 
-app-end-requires : tie.Need-app-end-requires
-app-end-requires c κs = search needs
-
-start-requires : tie.Need-start-requires
-start-requires c κs =
-    let entry = c .before in
-    let board = boardOf (entry .args .a .0) (entry .args .b .0) (entry .args .part0) (entry .args .part1) in
-    omega (arith, split-facts board (entry .pre), end-in-flash board)
-
-start-requires-2 : tie.Need-start-requires-2
-start-requires-2 c κs =
-    let entry = c .before .before in
-    let board = boardOf (entry .args .a .0) (entry .args .b .0) (entry .args .part0) (entry .args .part1) in
-    omega (arith, split-facts board (entry .pre))
-
-sub-len : tie.Need-sub-len
-sub-len c =
-    let entry = c .before .before .before .before .before in
-    let board = boardOf (entry .args .a .0) (entry .args .b .0) (entry .args .part0) (entry .args .part1) in
-    omega (arith, end-after-start board (entry .pre))
+fresh-talk-requires : tie.Need-fresh-talk-requires
+fresh-talk-requires c κs = search needs
 
 returns : tie.Need-returns
-unfolding freshOf wholeUpload
+unfolding freshOf
 returns c =
-    let begin = c .before .before in
-    let end = begin .before in
-    let entry = end .before .before in
-    let board = boardOf (entry .args .a .0) (entry .args .b .0) (entry .args .part0) (entry .args .part1) in
-    let len : end .start .result .0 - begin .start2 .result .0 ≡ (appEnd board - entry .args .a .0) * 1024 = omega arith in
-    rw len
+    let made = c .before .before .before in
+    let a = made .before .args in
+    let over : Talk → Session =
+    λ t.
+    record {
+      board = boardOf (a .a .0) (a .b .0) (a .part0) (a .part1);
+      phase = t .phase;
+      down = t .down;
+      up = t .up;
+      sums = a .sums;
+    } in
+    ap over (made .fresh-talk .ensures)
 
 pub fresh-spec : {M : Type 1} → statement M
-fresh-spec = tie.close (tie.spec app-end-requires start-requires start-requires-2 sub-len returns)
+fresh-spec = tie.close (tie.spec fresh-talk-requires returns)

@@ -1,0 +1,2 @@
+-- What the host hears: the laws.
+pub mod Laws
