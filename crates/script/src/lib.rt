@@ -13,7 +13,7 @@ use crate::tape::Record;
 mod line;
 mod tape;
 
-// The bytes of 255 blocks: as many as a head's one byte can name, though no start takes more than 64.
+// The bytes of 255 blocks: as many as a head's one byte can name, whatever the most blocks of a flash are.
 const ROOM: usize = 261_120;
 
 // A reply buffer is filled with this byte before each call, so that what a call leaves untouched is seen.

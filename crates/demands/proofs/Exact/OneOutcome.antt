@@ -1,8 +1,12 @@
 -- No second outcome fits: each promise determines what a call leaves. Assumes nothing.
 use Prim.Native.Nat.{ℕ, zero, suc}
 use mathlib.Core.Path.{_≡_, refl, sym, ap, _∙_}
+use Rattle.session.specs.Session.{talkOf}
 use Rattle.answers.specs.declared.Answer.{Answer}
-use Rattle.answers.specs.Answers.{answerNumber}
+use Rattle.answers.specs.declared.Heard.{Heard}
+use Rattle.answers.specs.declared.Outcome.{Outcome}
+use Rattle.answers.specs.Answers.{answerNumber, heard}
+use Rattle.jobs.specs.Job.{Plan, decisionOf}
 use Rattle.loader.specs.Step.{startOutcome, stepOf}
 use Rattle.demands.specs.Exact.OneOutcome.{OneOutcome}
 
@@ -25,12 +29,20 @@ back Answer.ResetAsked = refl
 one : {A : Type 0} (said left other : A) → left ≡ said → other ≡ said → left ≡ other
 one said left other e h = e ∙ sym h
 
+-- what is heard in an outcome
+told : Outcome → Heard
+told o = heard (o .answer) (o .count) (talkOf (o .session))
+
 pub OneOutcome-holds : OneOutcome
+unfolding told
 OneOutcome-holds =
     record {
       equation = one;
       start = λ flash a b part0 part1 t u. one (startOutcome flash a b part0 part1) t u;
       step = λ s flash setup d reply l m. one (stepOf s flash setup d reply) l m;
+      talk = λ s t u e. ap talkOf e;
+      heard = λ s h k e. ap told e;
+      decision = λ s x y e. ap (λ (p : Plan). decisionOf (told (p .outcome)) (p .job)) e;
       sent = λ n m before after other bytes e h. (e .count ∙ sym (h .count), e .reply ∙ sym (h .reply));
       word = λ bytes at r q e h. e .0 ∙ sym (h .0);
       answer = λ x y e. sym (back x) ∙ ap ofNumber e ∙ back y;

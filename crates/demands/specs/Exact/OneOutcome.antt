@@ -2,11 +2,16 @@
 use Prim.Native.Nat.{ℕ, _<_}
 use mathlib.Core.List.{List}
 use mathlib.Core.Path.{_≡_}
+use Rattle.session.specs.declared.Talk.{Talk}
 use Rattle.session.specs.declared.Session.{Session}
+use Rattle.session.specs.Session.{withTalk}
 use Rattle.numbers.specs.Numbers.{wordAt}
 use Rattle.stream.specs.Stream.{Sent}
 use Rattle.answers.specs.declared.Answer.{Answer}
-use Rattle.answers.specs.Answers.{answerNumber, Leaves, Told}
+use Rattle.answers.specs.declared.Heard.{Heard}
+use Rattle.answers.specs.Answers.{answerNumber, Leaves, Told, heardAt}
+use Rattle.jobs.specs.declared.Decision.{Decision}
+use Rattle.jobs.specs.Job.{planned}
 use Rattle.loader.specs.Step.{startOutcome, stepOf}
 
 -- no second outcome fits, on the refused inputs too
@@ -20,6 +25,10 @@ pub record OneOutcome : Type 1 where
   pub step :
       (s : Session) (flash setup d reply : List ℕ) (l m : Leaves) → l ≡ stepOf s flash setup d reply
       → m ≡ stepOf s flash setup d reply → l ≡ m
+  -- what hands back a talk promises the session, the outcome or the plan that this makes of the session handed over: each tells the talk
+  pub talk : (s : Session) (t u : Talk) → withTalk s t ≡ withTalk s u → t ≡ u
+  pub heard : (s : Session) (h k : Heard) → heardAt s h ≡ heardAt s k → h ≡ k
+  pub decision : (s : Session) (x y : Decision) → planned s x ≡ planned s y → x ≡ y
   -- stream::send promises a count and the reply buffer apart
   pub sent :
       (n m : ℕ) (before after other bytes : List ℕ) → Sent n before after bytes → Sent m before other bytes

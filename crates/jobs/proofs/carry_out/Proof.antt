@@ -50,7 +50,8 @@ erase-requires c κs =
     let j = c .before .before in
     let s = j .before .before .before .before in
     let told = j .job2 .given in
-    reach-wipe _ (s .args .flash .now) (s .args .d .now) (s .pre) (told .0 .0) (told .0 .1 .0) (told .1)
+    let w = reach-wipe _ (s .args .flash .now) (s .args .d .now) (s .pre) (told .0 .0) (told .0 .1 .0) (told .1) in
+    record { inside = omega (arith, w .inside); addressed = omega (arith, w .addressed) }
 
 returns : tie.Need-returns
 unfolding storesFor carried

@@ -39,7 +39,7 @@ sums-after-requires c κs =
     let s = j .before .before .before .before in
     let told = j .job .given in
     let can = can-bytes _ _ (s .args .kept) _ _ (s .pre) (told .0 .0) (told .0 .1 .0) (told .1) in
-    (can .1, can .2)
+    (can .1, record { low = can .2 .low; high = omega (arith, can .2 .high) })
 
 enum-known-job-2 : tie.Need-enum-known-job-2
 enum-known-job-2 c = search needs
