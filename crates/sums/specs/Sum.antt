@@ -13,7 +13,7 @@ use Rattle.sums.specs.declared.Sums.{Sums}
 
 -- the most blocks that a flash may have
 abbrev pub mostBlocks : ℕ
-mostBlocks = 64
+mostBlocks = 256
 
 -- the bytes of blocks first to stop − 1
 unfoldable pub blocksOf : List ℕ → ℕ → ℕ → List ℕ

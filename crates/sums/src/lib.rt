@@ -9,7 +9,7 @@ ghost use Rattle.flash.specs.Flash.{startOf};
 ghost use Rattle.sums.specs.Sum.{mostBlocks, blocksOf, freshSums, refreshed, Split};
 
 // The most blocks that a flash may have: the one place in code that says so.
-pub const MOST: usize = 64;
+pub const MOST: usize = 256;
 
 #[repr(C)]
 pub struct Sums {
