@@ -26,7 +26,7 @@ extern "C" {
 
 /* What a flash is made of. */
 #define MULLIRIM_BLOCK 1024u      /* the bytes of a block */
-#define MULLIRIM_MOST_BLOCKS 64u  /* the most blocks of a flash */
+#define MULLIRIM_MOST_BLOCKS 256u /* the most blocks of a flash */
 #define MULLIRIM_REPLY_ROOM 1024u /* a reply buffer has at least so many bytes */
 
 /* What the host hears. */

@@ -6,7 +6,7 @@ use std::ops::Range;
 
 pub const BLOCK: u32 = 1_024;
 pub const ERASED: u8 = 0xFF;
-pub const MOST_BLOCKS: usize = 64;
+pub const MOST_BLOCKS: usize = 256;
 /// The largest request, and the least room a reply buffer may have.
 pub const TRANSFER: usize = 1_024;
 

@@ -1,5 +1,6 @@
 //! The script both players read: a head of ten bytes, then one record for each
-//! call. Also the flash that every run begins with.
+//! call. Also the flash that every run begins with. A head names A and B by a byte
+//! each, so that no script is for a flash of more than 255 blocks.
 
 use crate::second::{BLOCK, ERASED};
 

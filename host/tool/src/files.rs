@@ -231,13 +231,13 @@ mod tests {
     #[test]
     fn a_file_that_was_not_read_to_its_end_is_only_too_long() {
         let firmware = [0x42; MOST_WRAPPED];
-        let why = "no flash has more than 65,536 bytes; ";
+        let why = format!("no flash has more than {} bytes; ", grouped(MOST_BYTES));
         for file in [
             suffixed(&firmware[..MOST_WRAPPED + 1 - 16]),
             headed(0, &firmware[..MOST_WRAPPED + 1 - 8]),
         ] {
             assert_eq!(file.len(), MOST_WRAPPED + 1);
-            assert!(flash_of(&file).unwrap_err().starts_with(why));
+            assert!(flash_of(&file).unwrap_err().starts_with(&why));
         }
     }
 
@@ -288,16 +288,16 @@ mod tests {
     /// look like.
     #[test]
     fn a_file_that_is_longer_than_all_is_too_long_and_not_damaged() {
-        let why = "the image has more than 65,536 bytes, and the application holds 1,024 bytes";
+        let most = grouped(MOST_BYTES);
+        let why = |has: &str| {
+            format!("the image has {has}{most} bytes, and the application holds 1,024 bytes")
+        };
         let mut file = suffixed(&headed(1, &[0x42; MOST_BYTES]));
-        assert_eq!(
-            image_of(&file, 1, 1_024),
-            Err(why.replace("more than ", ""))
-        );
+        assert_eq!(image_of(&file, 1, 1_024), Err(why("")));
         file[9] ^= 1;
         assert!(image_of(&file, 1, 1_024).unwrap_err().contains("the sum"));
         file.insert(0, 0);
-        assert_eq!(image_of(&file, 1, 1_024), Err(why.to_string()));
+        assert_eq!(image_of(&file, 1, 1_024), Err(why("more than ")));
     }
 
     #[test]
@@ -317,14 +317,15 @@ mod tests {
 
     #[test]
     fn a_file_without_an_end_is_refused() {
-        let why = "/dev/zero: no flash has more than 65,536 bytes; ";
+        let long = format!("more than {} bytes", grouped(MOST_BYTES));
+        let why = format!("/dev/zero: no flash has {long}; ");
         let endless = Path::new("/dev/zero");
-        assert!(read_flash(endless).unwrap_err().starts_with(why));
-        let why = "/dev/zero: the image has more than 65,536 bytes, ";
+        assert!(read_flash(endless).unwrap_err().starts_with(&why));
+        let why = format!("/dev/zero: the image has {long}, ");
         for plain in [false, true] {
             let path = endless;
             let wanted = Wanted { path, plain };
-            assert!(read_image(wanted, 1, 1_024).unwrap_err().starts_with(why));
+            assert!(read_image(wanted, 1, 1_024).unwrap_err().starts_with(&why));
         }
     }
 }

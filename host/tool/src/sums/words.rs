@@ -320,7 +320,14 @@ mod tests {
 
     #[test]
     fn a_split_leaves_a_block_on_both_sides_and_is_no_more_than_the_most() {
-        for (text, first, blocks) in [("1:2", 1, 2), ("63:64", 63, 64), ("016:64", 16, 64)] {
+        let most = MOST_BLOCKS as u16;
+        let last = format!("{}:{most}", most - 1);
+        for (text, first, blocks) in [
+            ("1:2", 1, 2),
+            ("63:64", 63, 64),
+            ("016:64", 16, 64),
+            (&last, most - 1, most),
+        ] {
             let value = Some(OsString::from(text));
             assert_eq!(split("--split", value), Ok(Split { first, blocks }));
         }
@@ -333,7 +340,7 @@ mod tests {
             "0:64",
             "64:64",
             "17:16",
-            "16:65",
+            &format!("16:{}", MOST_BLOCKS + 1),
             "16",
             "16:",
             ":64",
@@ -346,8 +353,9 @@ mod tests {
             "65537:65538",
             "0x10:0x40",
         ] {
-            let why = "--split takes A:B with A from 1 and B over A and up to 64, as 16:64, and";
-            refused(&["--split", word], &format!("{why} '{word}' is not that"));
+            let rule = format!("A from 1 and B over A and up to {MOST_BLOCKS}, as 16:64,");
+            let why = format!("--split takes A:B with {rule} and '{word}' is not that");
+            refused(&["--split", word], &why);
         }
     }
 

@@ -1,5 +1,6 @@
 //! A folder of a test's own, and the tool run in it.
 
+use mullirim_host::second::MOST_BLOCKS;
 use std::ffi::OsStr;
 use std::fs;
 use std::path::{Path, PathBuf};
@@ -92,6 +93,12 @@ impl Drop for Folder {
     fn drop(&mut self) {
         let _ = fs::remove_dir_all(&self.0);
     }
+}
+
+/// The most bytes of a flash, as a message has them.
+pub fn most_bytes() -> String {
+    let bytes = MOST_BLOCKS * 1_024;
+    format!("{},{:03} bytes", bytes / 1_000, bytes % 1_000)
 }
 
 /// A flash of so many blocks that looks like one, from a seed.

@@ -2,12 +2,27 @@
 //! on standard output.
 
 use crate::dfu::{headed, suffixed};
-use crate::folder::{some_flash, Folder};
+use crate::folder::{most_bytes, some_flash, Folder};
+use mullirim_host::second::MOST_BLOCKS;
 use std::ffi::OsStr;
 use std::fs;
 use std::os::unix::ffi::OsStrExt;
 
 const HOW: &str = "(--help shows how)";
+
+/// What is said of a word that is no split for `sums`.
+fn no_split(word: &str) -> String {
+    format!(
+        "mullirim sums: --split takes A:B with A from 1 and B over A and up to {MOST_BLOCKS}, \
+         as 16:64, and '{word}' is not that"
+    )
+}
+
+/// And of one that is none for `visit`.
+fn no_block(word: &str) -> String {
+    let last = MOST_BLOCKS - 1;
+    format!("mullirim visit: --split takes a block number from 1 to {last}, and '{word}' is none")
+}
 
 #[test]
 fn wrong_use_ends_with_2() {
@@ -27,8 +42,7 @@ fn wrong_use_ends_with_2() {
     );
     let needs = "mullirim visit: --flash needs the name of a file";
     refused(&["visit", "--flash"], needs);
-    let none = "mullirim visit: --split takes a block number from 1 to 63, and '16:64' is none";
-    refused(&["visit", "--split", "16:64"], none);
+    refused(&["visit", "--split", "16:64"], &no_block("16:64"));
     let none = "mullirim sums: name a flash file, or an image by --image";
     refused(&["sums"], none);
     refused(
@@ -37,12 +51,9 @@ fn wrong_use_ends_with_2() {
     );
     let two = "mullirim sums: --compare takes two files, and 1 is given";
     refused(&["sums", "--compare", "f"], two);
-    for word in ["0:64", "64:64", "16:65", "16", "65537:65538"] {
-        let why = format!(
-            "mullirim sums: --split takes A:B with A from 1 and B over A and up to 64, as 16:64, \
-             and '{word}' is not that"
-        );
-        refused(&["sums", "f", "--split", word], &why);
+    let over = format!("16:{}", MOST_BLOCKS + 1);
+    for word in ["0:64", "64:64", &over, "16", "65537:65538"] {
+        refused(&["sums", "f", "--split", word], &no_split(word));
     }
     assert!(folder.names().is_empty());
 }
@@ -112,19 +123,22 @@ fn a_file_kept_from_its_reader_is_named() {
 #[test]
 fn a_flash_has_whole_blocks() {
     let folder = Folder::new("length");
+    let most = MOST_BLOCKS * 1_024;
+    let long = format!("more than {}", most_bytes());
     let cases = [
         (0, "0 bytes"),
         (1, "1 byte"),
         (1_024, "1,024 bytes"),
         (2_047, "2,047 bytes"),
         (65_535, "65,535 bytes"),
-        (65_537, "more than 65,536 bytes"),
-        (66_560, "more than 65,536 bytes"),
-        (1_000_000, "more than 65,536 bytes"),
+        (65_537, "65,537 bytes"),
+        (most + 1, &long),
+        (most + 1_024, &long),
+        (1_000_000, &long),
     ];
     for (length, said) in cases {
         folder.put("f", vec![0x42; length]);
-        let rule = "it has 2 to 64 whole blocks of 1,024 bytes";
+        let rule = format!("it has 2 to {MOST_BLOCKS} whole blocks of 1,024 bytes");
         for command in ["sums", "visit"] {
             let why = format!("mullirim {command}: f: no flash has {said}; {rule}");
             let words = match command {
@@ -182,10 +196,12 @@ fn an_image_fits_the_application() {
         1,
         &format!("mullirim visit: {why}"),
     );
-    folder.put("i", [7; 100_000]);
-    let why = "mullirim sums: i: the image has more than 65,536 bytes, \
-               and the application holds 1,024 bytes";
-    folder.refused(&["sums", "--image", "i", "--split", "3:4"], 1, why);
+    folder.put("i", [7; 1_000_000]);
+    let why = format!(
+        "mullirim sums: i: the image has more than {}, and the application holds 1,024 bytes",
+        most_bytes()
+    );
+    folder.refused(&["sums", "--image", "i", "--split", "3:4"], 1, &why);
 }
 
 /// The ways in which a flash comes to the tool.
@@ -293,10 +309,8 @@ fn names_of_written_files_and_other_words_are_shown_so_too() {
         "{said}"
     );
     assert_eq!(folder.names(), ["\rs", "\u{9b}a"]);
-    let why = "mullirim visit: --split takes a block number from 1 to 63, and '\\u{1b}' is none";
+    let why = no_block("\\u{1b}");
     folder.refused(&["visit", "--split", "\x1b"], 2, &format!("{why} {HOW}"));
-    let why =
-        "mullirim sums: --split takes A:B with A from 1 and B over A and up to 64, as 16:64, \
-               and '\\u{7}' is not that";
+    let why = no_split("\\u{7}");
     folder.refused(&["sums", "--split", "\x07"], 2, &format!("{why} {HOW}"));
 }

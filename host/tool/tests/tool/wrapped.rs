@@ -2,8 +2,9 @@
 //! what it says, and which files it refuses before it touches a board.
 
 use crate::dfu::{headed, suffixed, summed};
-use crate::folder::{some_flash, Folder, Said};
+use crate::folder::{most_bytes, some_flash, Folder, Said};
 use crate::json::{self, Json};
+use mullirim_host::second::MOST_BLOCKS;
 
 const FOR: [u16; 3] = [0x0100, 0x0001, 0x1209];
 const SUFFIX: &str = "DFU suffix taken off: its sum is right";
@@ -531,11 +532,13 @@ fn an_image_is_measured_without_its_wrapping() {
     refused(&folder, &headed(3, &image[..5_121]), long);
     let both = suffixed(&headed(3, &image[..5_121]), FOR);
     refused(&folder, &both, long);
-    let long = "the image has more than 65,536 bytes, and the application holds 5,120 bytes";
-    let image = some_flash(26, 65);
-    refused(&folder, &suffixed(&headed(3, &image[..65_537]), FOR), long);
-    refused(&folder, &suffixed(&headed(3, &image), FOR), long);
-    refused(&folder, &image, long);
+    let most = most_bytes();
+    let long = format!("the image has more than {most}, and the application holds 5,120 bytes");
+    let image = some_flash(26, MOST_BLOCKS as u32 + 1);
+    let by_one = &image[..MOST_BLOCKS * 1_024 + 1];
+    refused(&folder, &suffixed(&headed(3, by_one), FOR), &long);
+    refused(&folder, &suffixed(&headed(3, &image), FOR), &long);
+    refused(&folder, &image, &long);
 }
 
 /// What a board answers to an upload can be sent back, and what is saved too.
