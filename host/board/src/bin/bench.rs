@@ -7,6 +7,8 @@ mod bundle;
 mod clock;
 #[path = "bench/download.rs"]
 mod download;
+#[path = "bench/piece.rs"]
+mod piece;
 #[path = "bench/plain.rs"]
 mod plain;
 #[path = "bench/question.rs"]
@@ -15,6 +17,8 @@ mod question;
 mod refresh;
 #[path = "bench/search.rs"]
 mod search;
+#[path = "bench/start.rs"]
+mod start;
 #[path = "bench/suffix.rs"]
 mod suffix;
 #[path = "bench/sums.rs"]
@@ -23,7 +27,7 @@ mod sums;
 mod zlib;
 
 use clock::{Row, REPETITIONS};
-use mullirim_board::{request, start, Answer, Session};
+use mullirim_board::{request, Answer, Session};
 use mullirim_host::second;
 use mullirim_host::tape::setup;
 use std::ops::Range;
@@ -36,6 +40,47 @@ const BLOCK: usize = second::BLOCK as usize;
 const FLASH: usize = BLOCKS as usize * BLOCK;
 const APPLICATION: Range<usize> = FIRST as usize * BLOCK..FLASH;
 
+#[derive(Clone, Copy)]
+struct Board {
+    first: u16,
+    blocks: u16,
+}
+
+/// That board, and one with as many blocks as can be.
+const BOARDS: [Board; 2] = [
+    Board {
+        first: FIRST,
+        blocks: BLOCKS,
+    },
+    Board {
+        first: FIRST,
+        blocks: second::MOST_BLOCKS as u16,
+    },
+];
+
+impl Board {
+    fn bytes(self) -> usize {
+        usize::from(self.blocks) * BLOCK
+    }
+
+    fn application(self) -> Range<usize> {
+        usize::from(self.first) * BLOCK..self.bytes()
+    }
+
+    /// The session of a start over this flash.
+    fn started(self, flash: &[u8]) -> Session {
+        mullirim_board::start(flash, self.first.into(), self.blocks.into(), 0, 0).session
+    }
+
+    /// What was measured, with the board where it isn't that of the desk.
+    fn named(self, what: &str) -> String {
+        match self.blocks {
+            BLOCKS => what.to_string(),
+            blocks => format!("{what}, B = {blocks}"),
+        }
+    }
+}
+
 /// A comparison: what was measured, or how the two sides differed.
 type Compared = Result<Vec<Row>, String>;
 
@@ -47,8 +92,10 @@ fn main() -> ExitCode {
     let comparisons = [
         sums::compare,
         download::compare,
+        piece::compare,
         search::compare,
         refresh::compare,
+        start::compare,
         question::compare,
         suffix::compare,
         bundle::compare,
@@ -89,9 +136,9 @@ fn noise(length: usize) -> Vec<u8> {
     (0..length).map(|_| byte()).collect()
 }
 
-/// The session of a start over this flash.
+/// The session of a start over this flash of the desk's board.
 fn started(flash: &[u8]) -> Session {
-    start(flash, FIRST.into(), BLOCKS.into(), 0, 0).session
+    BOARDS[0].started(flash)
 }
 
 /// One DNLOAD through the proved loader.

@@ -64,7 +64,7 @@ fn erased() -> Vec<u8> {
 fn sides<'a>(pieces: &'a [&'a [u8]], sent: &'a [Sent]) -> Vec<Side<'a>> {
     let session = started(&erased());
     let second = second::Session::from(&session);
-    let sums = Sums::new(&erased());
+    let sums = Sums::new(&erased()[APPLICATION]);
     vec![
         Side::readied("ours", erased, move |mut flash| {
             let (taken, session) = play(session, &mut flash, sent);
@@ -72,7 +72,7 @@ fn sides<'a>(pieces: &'a [&'a [u8]], sent: &'a [Sent]) -> Vec<Side<'a>> {
         }),
         Side::readied("Rust, byte table: same work", erased, move |mut flash| {
             let mut sums = sums.clone();
-            let done = plain::download(&mut flash, &mut sums, pieces);
+            let done = plain::download(&mut flash[APPLICATION], &mut sums, pieces);
             (done, sums, flash)
         }),
         Side::readied("second loader, bit by bit", erased, move |mut flash| {
@@ -87,19 +87,17 @@ fn same(image: &[u8], pieces: &[&[u8]], sent: &[Sent]) -> bool {
     let session = started(&erased());
     let second = second::Session::from(&session);
     let mut flashes = [erased(), erased(), erased()];
-    let mut sums = Sums::new(&flashes[2]);
+    let mut sums = Sums::new(&flashes[2][APPLICATION]);
     let (taken, ours) = play(session, &mut flashes[0], sent);
     let (second_taken, second) = play_second(second, &mut flashes[1], sent);
-    let done = plain::download(&mut flashes[2], &mut sums, pieces);
-    let kept = &ours.sums;
+    let done = plain::download(&mut flashes[2][APPLICATION], &mut sums, pieces);
     taken
         && second_taken
         && done
         && flashes.iter().all(|flash| flash[APPLICATION] == *image)
         && second::Session::from(&ours) == second
         && ours.phase.state == state::IDLE
-        && kept.block[FIRST as usize..] == sums.block
-        && kept.whole == sums.whole
+        && sums.kept_by(&ours)
 }
 
 /// Plays the requests through the proved loader: whether all were taken, and

@@ -1,7 +1,8 @@
 //! The same work as one writes it in Rust at first: a table, a byte at a step,
 //! slices copied whole.
 
-use super::{APPLICATION, BLOCK};
+use super::BLOCK;
+use mullirim_board::Session;
 use mullirim_files::bundle::{head, Refusal, Unwritten, MOST};
 use mullirim_host::layout::Parts;
 
@@ -43,18 +44,26 @@ pub struct Sums {
 }
 
 impl Sums {
-    pub fn new(flash: &[u8]) -> Sums {
-        let application = &flash[APPLICATION];
+    pub fn new(application: &[u8]) -> Sums {
         Sums {
             block: application.chunks(BLOCK).map(sum).collect(),
             whole: sum(application),
         }
     }
 
+    /// Whether a session keeps these, and zeros for all other blocks.
+    pub fn kept_by(&self, session: &Session) -> bool {
+        let Session { board, sums, .. } = session;
+        let (first, blocks) = (board.first as usize, board.blocks as usize);
+        let others = sums.block[..first].iter().chain(&sums.block[blocks..]);
+        sums.block[first..blocks] == self.block
+            && sums.whole == self.whole
+            && others.copied().all(|sum| sum == 0)
+    }
+
     /// The sums after bytes `from` to the one before `to` of the application
     /// changed; at least one did.
-    pub fn refresh(&mut self, flash: &[u8], from: usize, to: usize) {
-        let application = &flash[APPLICATION];
+    pub fn refresh(&mut self, application: &[u8], from: usize, to: usize) {
         for block in from / BLOCK..to.div_ceil(BLOCK) {
             self.block[block] = sum(&application[block * BLOCK..(block + 1) * BLOCK]);
         }
@@ -62,20 +71,24 @@ impl Sums {
     }
 }
 
-/// A download without its protocol: the erased check, then each piece copied
-/// and the sums refreshed after it.
-pub fn download(flash: &mut [u8], sums: &mut Sums, pieces: &[&[u8]]) -> bool {
-    if !flash[APPLICATION].iter().all(|byte| *byte == 0xFF) {
+/// A download without its protocol: the erased check, then piece by piece.
+pub fn download(application: &mut [u8], sums: &mut Sums, pieces: &[&[u8]]) -> bool {
+    if !application.iter().all(|byte| *byte == 0xFF) {
         return false;
     }
     let mut place = 0;
     for piece in pieces {
-        let end = place + piece.len();
-        flash[APPLICATION][place..end].copy_from_slice(piece);
-        sums.refresh(flash, place, end);
-        place = end;
+        put(application, sums, place, piece);
+        place += piece.len();
     }
     true
+}
+
+/// A piece copied to its place and the sums refreshed after it.
+pub fn put(application: &mut [u8], sums: &mut Sums, place: usize, piece: &[u8]) {
+    let end = place + piece.len();
+    application[place..end].copy_from_slice(piece);
+    sums.refresh(application, place, end);
 }
 
 /// What is the same in every suffix: bcdDFU, signature and length.
@@ -206,7 +219,7 @@ fn write_head(lengths: &[u64], front: &mut [u8]) {
 #[cfg(test)]
 mod tests {
     use super::*;
-    use crate::{noise, FLASH};
+    use crate::{noise, APPLICATION};
     use mullirim_files::bundle;
     use mullirim_host::dice::Dice;
     use mullirim_host::second;
@@ -223,13 +236,13 @@ mod tests {
 
     #[test]
     fn refreshed_sums_are_those_made_new() {
-        let mut flash = noise(FLASH);
-        let mut sums = Sums::new(&flash);
+        let mut application = noise(APPLICATION.len());
+        let mut sums = Sums::new(&application);
         for (from, to) in [(0, 1), (1_023, 1_025), (2_048, 3_072), (49_151, 49_152)] {
-            flash[APPLICATION][from..to].fill(0);
-            assert_ne!(sums, Sums::new(&flash));
-            sums.refresh(&flash, from, to);
-            assert_eq!(sums, Sums::new(&flash));
+            application[from..to].fill(0);
+            assert_ne!(sums, Sums::new(&application));
+            sums.refresh(&application, from, to);
+            assert_eq!(sums, Sums::new(&application));
         }
     }
 
@@ -374,12 +387,12 @@ mod tests {
     #[test]
     fn a_download_asks_for_erased_flash() {
         let image = noise(1_500);
-        let mut flash = vec![0xFF; FLASH];
-        let mut sums = Sums::new(&flash);
+        let mut application = vec![0xFF; APPLICATION.len()];
+        let mut sums = Sums::new(&application);
         let pieces = [&image[..1_016], &image[1_016..]];
-        assert!(download(&mut flash, &mut sums, &pieces));
-        assert_eq!(flash[APPLICATION][..1_500], image);
-        assert_eq!(sums, Sums::new(&flash));
-        assert!(!download(&mut flash, &mut sums, &pieces));
+        assert!(download(&mut application, &mut sums, &pieces));
+        assert_eq!(application[..1_500], image);
+        assert_eq!(sums, Sums::new(&application));
+        assert!(!download(&mut application, &mut sums, &pieces));
     }
 }
