@@ -2,7 +2,7 @@
  * Plays a recording of calls through the library and holds all that each call leaves to what the recording says. It comes on standard
  * input, from host/src/bin/record.rs; its numbers are little-endian.
  *
- *   'S' flash length lent, first, blocks, part, klass (32 bits each), ROOM bytes of flash; answer (8 bits), session
+ *   'S' length of the flash (32 bits), bytes; how much of it is lent, first, blocks, part, klass (32 bits each); answer (8 bits), session
  *   'R' session; lengths of flash, setup, data and reply (32 bits each), setup, data;
  *       answer (8 bits), count (32 bits), as many bytes of reply, session, change: place, length (32 bits each) and bytes
  *   'E' the number of all requests (32 bits)
@@ -14,7 +14,7 @@
 
 enum { ROOM = (MULLIRIM_MOST_BLOCKS + 1) * MULLIRIM_BLOCK, REPLY = 2 * MULLIRIM_REPLY_ROOM, SETUP = 16, DATA = 65536 };
 
-static uint32_t wide;
+static uint32_t wide, most;
 static uint8_t flash[ROOM], reply[REPLY], setup[SETUP], data[DATA];
 
 /* Field by field, since padding may hold anything. */
@@ -36,12 +36,14 @@ static void play_start(void)
 {
     static uint8_t after[ROOM];
     static struct loan f;
-    size_t len = read_number(ROOM);
+    size_t room = read_number(ROOM);
+
+    read_bytes(flash, room);
+    size_t len = read_number(room);
     uint32_t first = read_number(UINT32_MAX), blocks = read_number(UINT32_MAX);
     uint32_t part = read_number(UINT32_MAX), klass = read_number(UINT32_MAX);
     uint8_t code;
 
-    read_bytes(flash, ROOM);
     read_bytes(&code, 1);
     memset(reply, 0xEE, REPLY);
     struct mullirim_started s = mullirim_start(lend(&f, flash, len), len, first, blocks, part, klass);
@@ -52,6 +54,7 @@ static void play_start(void)
         fail("a start changed the flash");
     same_session(&s.session);
     wide += first > UINT16_MAX || blocks > UINT16_MAX;
+    most += code == MULLIRIM_TAKEN && blocks == MULLIRIM_MOST_BLOCKS;
 }
 
 /* The outcome, once the recording's own change is made to `flash` and its reply to `reply`. */
@@ -110,7 +113,7 @@ int main(void)
     }
     if (read_number(UINT32_MAX) != played || getchar() != EOF)
         fail("the recording does not end as it says");
-    printf("%u requests after %u starts (%u with A or B over 65,535) replayed: all as recorded\n", (unsigned)played, (unsigned)starts,
-           (unsigned)wide);
+    printf("%u requests after %u starts (%u with A or B over 65,535, %u on %u blocks) replayed: all as recorded\n", (unsigned)played,
+           (unsigned)starts, (unsigned)wide, (unsigned)most, (unsigned)MULLIRIM_MOST_BLOCKS);
     return 0;
 }

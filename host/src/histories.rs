@@ -8,10 +8,32 @@ use crate::requests::{any_request, choose};
 use crate::second::{answer, start, step, Outcome, Session, BLOCK, ERASED, MOST_BLOCKS, TRANSFER};
 use crate::sessions;
 
-/// Every B from 2 to the most with every A below it.
-pub const SPLITS: u64 = (MOST_BLOCKS * (MOST_BLOCKS - 1) / 2) as u64;
+const MOST: u32 = MOST_BLOCKS as u32;
+/// A flash is small as long as each of its bytes has an address of 16 bits.
+pub const SMALL: u32 = (1 << 16) / BLOCK;
+/// Every B from 2 to the most of a small flash with every A below it.
+pub const SMALL_SPLITS: u64 = (SMALL * (SMALL - 1) / 2) as u64;
+/// Of so many histories in a row the last has a large flash. There are too many
+/// splits of these to meet each, and a call that sums one takes long.
+const ROUND: u64 = 4;
+/// The splits of the first large flashes, each for a tame history and a wild one.
+const BORDERS: [(u32, u32); 11] = [
+    (MOST - 1, MOST),
+    (SMALL, SMALL + 1),
+    (1, MOST),
+    (1, SMALL + 1),
+    (MOST - 2, MOST),
+    (MOST - 2, MOST - 1),
+    (SMALL, MOST),
+    (SMALL - 1, SMALL + 2),
+    (1, MOST - 1),
+    (MOST / 2, MOST),
+    (SMALL / 4, MOST),
+];
 /// The longest flash that is ever lent: a block more than the most.
 pub const FLASH_ROOM: usize = (MOST_BLOCKS + 1) * BLOCK as usize;
+/// The longest that a history of a small flash lends.
+const SMALL_ROOM: usize = ((SMALL + 1) * BLOCK) as usize;
 /// The longest reply buffer that is ever lent.
 pub const REPLY_ROOM: usize = 2 * TRANSFER;
 
@@ -35,6 +57,10 @@ pub struct Call {
 
 pub struct History {
     dice: Dice,
+    /// How many histories of its kind, with a small or a large flash, went
+    /// before.
+    pub turn: u64,
+    large: bool,
     /// Whether sessions are lent that no call led to.
     wild: bool,
     b: u32,
@@ -44,16 +70,26 @@ pub struct History {
 }
 
 impl History {
-    /// The history's flash, before any call. Numbers that follow each other
-    /// get splits far apart, and `SPLITS` in a row get every one.
+    /// The history's flash, before any call. Small ones that follow each other
+    /// get splits far apart, and `SMALL_SPLITS` in a row get every one.
     pub fn new(seed: u64, number: u64) -> History {
         let mut dice = Dice::new(seed.rotate_left(32) ^ number);
-        let (a, b) = split(number.wrapping_mul(997) % SPLITS);
-        let flash = some_flash(&mut dice, a, b);
+        let (large, turn) = kind(number);
+        let (a, b) = match large {
+            true => large_split(&mut dice, turn),
+            false => small_split(turn.wrapping_mul(997) % SMALL_SPLITS),
+        };
+        let room = [SMALL_ROOM, FLASH_ROOM][usize::from(large)];
+        let flash = some_flash(&mut dice, a, b, room);
         History {
-            wild: number % 2 == 1,
+            turn,
+            large,
+            wild: turn % 2 == 1,
             b,
-            length: 100 + dice.below(201),
+            length: match large {
+                true => 50 + dice.below(101),
+                false => 80 + dice.below(181),
+            },
             flash,
             session: Session {
                 a,
@@ -64,8 +100,8 @@ impl History {
         }
     }
 
-    /// The starts to make, one after the other: the right one, and in three
-    /// histories of eight another before it, mostly to be refused.
+    /// The starts to make, one after the other: the right one, and in half of
+    /// the histories another before it, mostly to be refused.
     pub fn starts(&mut self) -> Vec<Start> {
         let right = Start {
             lent: (self.b * BLOCK) as usize,
@@ -75,25 +111,31 @@ impl History {
             part1: self.dice.turn() as u32,
         };
         match self.dice.below(8) {
-            0..=1 => vec![self.other(&right), right],
-            2 => vec![self.wide(&right), right],
+            0..=2 => vec![self.other(&right), right],
+            3 => vec![self.wide(&right), right],
             _ => vec![right],
         }
     }
 
-    /// A start with one thing changed, or of a block too many with all their
-    /// bytes.
+    /// A start with one thing changed, or of all the bytes that there are: of a
+    /// large flash that is a block too many.
     fn other(&mut self, right: &Start) -> Start {
-        let most = MOST_BLOCKS as u32;
         let near = |n: u32, by: u32| (n + by).wrapping_sub(1);
         let mut start = Start { ..*right };
+        let (a, b) = (start.a, start.b);
         match self.dice.below(7) {
-            0 => start.a = [0, start.b, start.b + 1, 65_535][self.dice.below(4) as usize],
-            1 => start.b = [0, most + 1, most, start.a, 65_535][self.dice.below(5) as usize],
+            0 => start.a = [0, b, b + 1, 65_535, a + 256][self.dice.below(5) as usize],
+            1 => {
+                let others = [0, MOST + 1, MOST, a, 65_535, b + 256, b + 256];
+                start.b = others[self.dice.below(7) as usize];
+            }
             2 => start.lent = self.lent_wrong(),
-            3 => start.a = near(start.a, self.dice.below(3)),
-            4 => start.b = near(start.b, self.dice.below(3)),
-            _ => (start.b, start.lent) = (most + 1, FLASH_ROOM),
+            3 => start.a = near(a, self.dice.below(3)),
+            4 => start.b = near(b, self.dice.below(3)),
+            _ => {
+                start.lent = self.flash.len();
+                start.b = start.lent as u32 / BLOCK;
+            }
         }
         start
     }
@@ -105,7 +147,7 @@ impl History {
         let dice = &mut self.dice;
         let mut more = || match dice.below(4) {
             0 => [1 << 22, 1 << 24, 1 << 30, 1 << 31][dice.below(4) as usize],
-            1 => u32::MAX - MOST_BLOCKS as u32 - dice.below(4),
+            1 => u32::MAX - MOST - dice.below(4),
             _ => 65_536 * (1 + dice.below(65_535)),
         };
         let (a, b) = (more(), more());
@@ -131,7 +173,8 @@ impl History {
     fn lent_wrong(&mut self) -> usize {
         let right = (self.b * BLOCK) as usize;
         let wrong = [0, 1, right - 1, right + 1, right - 1_024, right + 1_024];
-        wrong[self.dice.below(6) as usize]
+        // A wild history of a small flash may have come to all there is.
+        wrong[self.dice.below(6) as usize].min(self.flash.len())
     }
 
     /// The next call. It is lent the session that the last one left, unless
@@ -166,7 +209,20 @@ impl History {
             4..=8 => sessions::altered(dice, self.session.clone()),
             9 => sessions::junk(dice),
             10 => Session::zeros(),
+            11 if self.large => self.of_a_block_too_many(),
+            12..=19 if self.large => sessions::fit(dice, self.b),
             _ => self.session.clone(),
+        }
+    }
+
+    /// A session with nothing else wrong.
+    fn of_a_block_too_many(&mut self) -> Session {
+        match self.dice.below(2) {
+            0 => sessions::fit(&mut self.dice, MOST + 1),
+            _ => Session {
+                b: MOST + 1,
+                ..self.session.clone()
+            },
         }
     }
 
@@ -176,7 +232,7 @@ impl History {
         let named = session.b.saturating_mul(BLOCK) as usize;
         match self.dice.below(96) {
             0 => self.lent_wrong(),
-            1..=60 if named <= FLASH_ROOM => named,
+            1..=60 if named <= self.flash.len() => named,
             _ => (self.b * BLOCK) as usize,
         }
     }
@@ -199,8 +255,35 @@ impl History {
     }
 }
 
+/// Whether the history with this number has a large flash, and how many of its
+/// kind go before it.
+fn kind(number: u64) -> (bool, u64) {
+    match (number % ROUND, number / ROUND) {
+        (place, round) if place == ROUND - 1 => (true, round),
+        (_, rounds) => (false, number - rounds),
+    }
+}
+
+/// The borders in turn, and then any split, often one of the most blocks and often
+/// with a short application, whose sums are quick.
+fn large_split(dice: &mut Dice, turn: u64) -> (u32, u32) {
+    if let Some(border) = BORDERS.get((turn / 2) as usize) {
+        return *border;
+    }
+    let b = match dice.below(3) {
+        0 => MOST,
+        _ => SMALL + 1 + dice.below(MOST - SMALL),
+    };
+    match dice.below(16) {
+        0 => (1, MOST),
+        1..=4 => BORDERS[dice.below(BORDERS.len() as u32) as usize],
+        5..=9 => (b - 1 - dice.below(8), b),
+        _ => (1 + dice.below(b - 1), b),
+    }
+}
+
 /// The split with this number, B by B.
-fn split(number: u64) -> (u32, u32) {
+fn small_split(number: u64) -> (u32, u32) {
     let mut rest = number as u32;
     let mut b = 2;
     while rest >= b - 1 {
@@ -213,14 +296,18 @@ fn split(number: u64) -> (u32, u32) {
 /// Boot blocks of anything; an application that is all erased, all data, or
 /// block by block the one or the other, with a lone byte here and there, or
 /// just one in it all.
-fn some_flash(dice: &mut Dice, a: u32, b: u32) -> Vec<u8> {
-    let mut flash = vec![0xA5; FLASH_ROOM];
+fn some_flash(dice: &mut Dice, a: u32, b: u32, room: usize) -> Vec<u8> {
+    let mut flash = vec![0xA5; room];
     // Seldom for a short application, where a search is soon over.
-    if dice.below(256) < b - a {
+    let seldom = match b > SMALL {
+        true => (b - a).clamp(SMALL / 2, 2 * SMALL),
+        false => b - a,
+    };
+    if dice.below(4 * SMALL) < seldom {
         let (start, end) = ((a * BLOCK) as usize, (b * BLOCK) as usize);
         flash[..start].copy_from_slice(&dice.bytes(a * BLOCK));
         flash[start..end].fill(ERASED);
-        let from_end = [2 * BLOCK, (b - a) * BLOCK][dice.below(2) as usize];
+        let from_end = [1, 2 * BLOCK, (b - a) * BLOCK][dice.below(3) as usize];
         let place = end - 1 - dice.below(from_end.min((b - a) * BLOCK)) as usize;
         flash[place] = lone::byte(dice);
         return flash;
@@ -247,20 +334,49 @@ mod tests {
     use std::collections::HashSet;
 
     #[test]
-    fn every_split_has_its_turn() {
-        let all: HashSet<_> = (0..SPLITS).map(split).collect();
-        assert_eq!(all.len(), SPLITS as usize);
-        let most = MOST_BLOCKS as u32;
-        assert!(all.iter().all(|(a, b)| 1 <= *a && a < b && *b <= most));
-        let met: HashSet<_> = (0..SPLITS).map(|n| n * 997 % SPLITS).collect();
-        assert_eq!(met.len(), SPLITS as usize);
+    fn every_split_of_a_small_flash_has_its_turn() {
+        let all: HashSet<_> = (0..SMALL_SPLITS).map(small_split).collect();
+        assert_eq!(all.len(), SMALL_SPLITS as usize);
+        assert!(all.iter().all(|(a, b)| 1 <= *a && a < b && *b <= SMALL));
+        let met: HashSet<_> = (0..SMALL_SPLITS).map(|n| n * 997 % SMALL_SPLITS).collect();
+        assert_eq!(met.len(), SMALL_SPLITS as usize);
+    }
+
+    #[test]
+    fn large_flashes_begin_with_the_borders_and_go_on_with_any() {
+        let mut dice = Dice::new(1);
+        let splits: Vec<_> = (0..60_000).map(|n| large_split(&mut dice, n)).collect();
+        let large = SMALL + 1..=MOST;
+        assert!(splits
+            .iter()
+            .all(|(a, b)| 1 <= *a && a < b && large.contains(b)));
+        let first: HashSet<_> = splits[..2 * BORDERS.len()].iter().copied().collect();
+        assert_eq!(first, BORDERS.into());
+        let sizes: HashSet<_> = splits.iter().map(|(_, b)| *b).collect();
+        assert_eq!(sizes, large.collect());
+        let firsts: HashSet<_> = splits.iter().map(|(a, _)| *a).collect();
+        assert_eq!(firsts, (1..MOST).collect());
+    }
+
+    /// Both kinds are tame and wild in turn.
+    #[test]
+    fn each_kind_counts_its_turns() {
+        let kinds: Vec<_> = (0..2 * ROUND).map(kind).collect();
+        for (large, turns) in [(true, 2), (false, 2 * ROUND - 2)] {
+            let of_kind = kinds.iter().filter(|kind| kind.0 == large);
+            let met: Vec<_> = of_kind.map(|kind| kind.1).collect();
+            assert_eq!(met, (0..turns).collect::<Vec<_>>());
+        }
+        assert!(kinds[ROUND as usize - 1].0);
     }
 
     /// Without lent sessions the sums must stay those worked out afresh.
     #[test]
     fn tame_histories_keep_their_sums() {
-        for number in [0, 2, 40, 42] {
+        let large = 2 * 5 * ROUND + ROUND - 1;
+        for number in [0, 2, 32, 34, ROUND - 1, large] {
             let history = played(5, number);
+            assert!(!history.wild && history.large == (number % ROUND == ROUND - 1));
             let kept = &history.session;
             let flash = &history.flash[..(kept.b * BLOCK) as usize];
             let (_, anew) = start(flash, kept.a, kept.b, 0, 0);

@@ -2,8 +2,9 @@
 //! more often than not its state takes them.
 
 use crate::dice::Dice;
+use crate::histories::SMALL;
 use crate::lone;
-use crate::second::{command, state, Session, BLOCK, ERASED, INFO_STREAM};
+use crate::second::{command, state, Session, BLOCK, ERASED, INFO_STREAM, MOST_BLOCKS};
 use crate::tape::{header, setup, QUERY};
 
 /// The setup bytes and the data.
@@ -228,8 +229,15 @@ fn a_command(dice: &mut Dice, session: &Session, flash: &[u8]) -> Vec<u8> {
 }
 
 fn whole_command(dice: &mut Dice, session: &Session, flash: &[u8]) -> Vec<u8> {
+    // All of the most blocks are seldom erased at once.
+    if session.b - session.a == MOST_BLOCKS as u32 - 1 && dice.below(2) == 0 {
+        return whole_range(dice, session);
+    }
     let (block, count) = blocks(dice, session);
-    match dice.below(23) {
+    match dice.below(25 + 5 * u32::from(session.b > SMALL)) {
+        25..=27 => far(dice, session),
+        28 => up_to_the_first(dice, session, flash, command::CHECK),
+        29 => up_to_the_first(dice, session, flash, command::PROG),
         0..=3 => header(command::ERASE, block, count).to_vec(),
         4..=11 => prog(dice, session, flash),
         12..=13 => ranged(dice, session, command::READ),
@@ -247,8 +255,8 @@ fn whole_command(dice: &mut Dice, session: &Session, flash: &[u8]) -> Vec<u8> {
             6,
         ],
         18 => header(command::RESET, block, count).to_vec(),
-        19 => near_a_lone_byte(dice, session, flash, command::PROG),
-        20..=21 => near_a_lone_byte(dice, session, flash, command::CHECK),
+        19..=20 => near_a_lone_byte(dice, session, flash, command::PROG),
+        21..=23 => near_a_lone_byte(dice, session, flash, command::CHECK),
         _ => {
             let unknown = [0, 8, 9, 255, dice.below(256) as u8];
             header(unknown[dice.below(5) as usize], block, count).to_vec()
@@ -282,16 +290,18 @@ fn blocks(dice: &mut Dice, session: &Session) -> (u16, u32) {
     (block as u16, count | high)
 }
 
-/// A block and length for READ or CHECK, near every edge of the application.
+/// A block and length for READ or CHECK, near every edge of the application, or
+/// numbers that would lie in it if they wrapped or were cut short.
 fn ranged(dice: &mut Dice, session: &Session, number: u8) -> Vec<u8> {
     let room = session.b - session.a;
     let offset = dice.below(room);
     let bytes = (room - offset) * BLOCK;
     let block = (session.a + offset) as u16;
-    let (block, length) = match dice.below(15) {
+    let wide = (u32::BITS - bytes.leading_zeros()).max(16);
+    let (block, length) = match dice.below(16) {
         0 => (block, 0),
         1 => (block, bytes + 1),
-        2 => (block, u32::MAX - dice.below(70_000)),
+        2 => (block, u32::MAX - dice.below((session.b + 4) * BLOCK)),
         3 => (session.a as u16 - 1, 1 + dice.below(2_000)),
         4 => (session.b as u16, 1),
         5 => (dice.below(65_536) as u16, 1 + dice.below(2_000)),
@@ -299,10 +309,48 @@ fn ranged(dice: &mut Dice, session: &Session, number: u8) -> Vec<u8> {
         6 => (block, bytes),
         9 => (0, 1 + dice.below(2_000)),
         7 => (block + 256, 1 + dice.below(bytes)),
-        8 => (block, (1 + dice.below(bytes)) | 1 << (17 + dice.below(15))),
+        8 => (
+            block,
+            (1 + dice.below(bytes)) | 1 << (wide + dice.below(32 - wide)),
+        ),
+        10 => (block, 1 + dice.below(bytes)),
         _ => (block, 1 + dice.below(bytes.min(3_000))),
     };
     header(number, block, length).to_vec()
+}
+
+/// A command that names a range.
+fn range_of(dice: &mut Dice, block: u32, bytes: u32) -> Vec<u8> {
+    let (number, length) = match dice.below(4) {
+        0 => (command::ERASE, bytes.div_ceil(BLOCK)),
+        1 => (command::READ, bytes),
+        2 => (command::CHECK, bytes),
+        _ => (command::PROG, bytes),
+    };
+    header(number, block as u16, length).to_vec()
+}
+
+fn whole_range(dice: &mut Dice, session: &Session) -> Vec<u8> {
+    range_of(dice, session.a, (session.b - session.a) * BLOCK)
+}
+
+/// A command of a large flash, with a range that is long or at one of the borders
+/// that a small one has not.
+fn far(dice: &mut Dice, session: &Session) -> Vec<u8> {
+    let (a, b) = (session.a, session.b);
+    let block = a + dice.below(b - a);
+    let across = a.max(SMALL - 1 - dice.below(2));
+    let (block, bytes) = match dice.below(8) {
+        0 => (block, (b - block) * BLOCK - dice.below(2)),
+        1 => (across, 1 + dice.below((b - across) * BLOCK)),
+        2 => (b - 1, BLOCK - dice.below(2)),
+        3 => (b, 1),
+        4 => (block, (b - block) * BLOCK + 1),
+        5 => (block + 256, 1 + dice.below(BLOCK)),
+        6 => (a - 1, 1 + dice.below(BLOCK)),
+        _ => (block, 1 + dice.below(4_096) + ((1 + dice.below(4)) << 16)),
+    };
+    range_of(dice, block, bytes)
 }
 
 /// The first erased block from a random one on, and how many bytes are erased

@@ -2,6 +2,7 @@
 //! numbers thrown together.
 
 use crate::dice::Dice;
+use crate::histories::SMALL;
 use crate::second::{state, status, Session, BLOCK, FLASH_STREAM, INFO_STREAM, MOST_BLOCKS};
 
 const STATES: [u8; 6] = [
@@ -24,13 +25,18 @@ const STATUSES: [u8; 5] = [
 /// A fit session for a flash of `b` blocks. Its sums are anything, since no
 /// rule judges them.
 pub fn fit(dice: &mut Dice, b: u32) -> Session {
-    let a = 1 + dice.below(b - 1);
+    let a = some_first(dice, b);
+    let state = match dice.below(8) {
+        6 => state::DOWN_IDLE,
+        7 => state::UP_IDLE,
+        place => STATES[place as usize],
+    };
     let mut session = Session {
         a,
         b,
         part0: dice.turn() as u32,
         part1: dice.turn() as u32,
-        state: STATES[dice.below(6) as usize],
+        state,
         after: state::IDLE,
         ..Session::zeros()
     };
@@ -43,6 +49,16 @@ pub fn fit(dice: &mut Dice, b: u32) -> Session {
     session
 }
 
+/// The first block of an application. That of a large flash is often a short one,
+/// which is quickly summed, and often begins at a small address.
+fn some_first(dice: &mut Dice, b: u32) -> u32 {
+    match dice.below(8) {
+        0..=3 if b > SMALL => b - 1 - dice.below(8),
+        4..=5 if b > SMALL => 1 + dice.below(SMALL - 1),
+        _ => 1 + dice.below(b - 1),
+    }
+}
+
 /// Status, state after sync and download, as the state wants them.
 fn choose_phase(dice: &mut Dice, session: &mut Session) {
     if session.state == state::ERROR {
@@ -52,36 +68,59 @@ fn choose_phase(dice: &mut Dice, session: &mut Session) {
         session.after = state::DOWN_IDLE;
     }
     if session.state == state::DOWN_IDLE || session.after == state::DOWN_IDLE {
-        let room = (session.b - session.a) * BLOCK;
-        let offset = at_most(dice, room);
-        session.down_place = session.a * BLOCK + offset;
-        session.down_left = at_most(dice, room - offset);
+        let end = session.b * BLOCK;
+        session.down_place = between(dice, session.a * BLOCK, end);
+        session.down_left = between(dice, 0, end - session.down_place);
     }
 }
 
 fn choose_upload(dice: &mut Dice, session: &mut Session) {
-    let offset = dice.below(session.b - session.a);
+    let offset = dice.below(session.b - session.a) * dice.below(2);
     session.up_choice = [FLASH_STREAM, FLASH_STREAM, INFO_STREAM][dice.below(3) as usize];
     session.up_prefix = dice.below(2) as u8;
     session.up_first = session.a + offset;
-    session.up_len = at_most(dice, (session.b - session.up_first) * BLOCK).max(1);
+    let most = (session.b - session.up_first) * BLOCK;
+    let least = match dice.below(3) {
+        0..=1 if most > 1 << 16 => 1 << 16,
+        _ => 1,
+    };
+    session.up_len = between(dice, least, most);
     if session.state == state::UP_IDLE {
-        let end = match (session.up_choice, session.up_prefix) {
-            (INFO_STREAM, _) => 20,
-            (_, prefix) => session.up_len + 8 * u32::from(prefix),
-        };
-        session.up_place = at_most(dice, end);
+        session.up_place = upload_place(dice, session);
     }
 }
 
-/// A number up to `most`, with a liking for the two ends.
-fn at_most(dice: &mut Dice, most: u32) -> u32 {
-    match dice.below(6) {
-        0 => 0,
+/// A place up to the stream's end, at times one from which address 65,536 or place
+/// 65,536 is read on.
+fn upload_place(dice: &mut Dice, session: &Session) -> u32 {
+    let prefix = 8 * u32::from(session.up_prefix);
+    let end = match session.up_choice {
+        INFO_STREAM => 20,
+        _ => session.up_len + prefix,
+    };
+    let before = (1_u32 << 16).saturating_sub(session.up_first * BLOCK);
+    match dice.below(3) {
+        0 if (1_024..end).contains(&before) => before + prefix - 1 - dice.below(1_024),
+        1 if end > 1 << 16 => (1 << 16) - 1 - dice.below(1_023),
+        _ => between(dice, 0, end),
+    }
+}
+
+/// A number from `least` to `most`, with a liking for the two ends and, where
+/// there is one between them, for a multiple of 65,536.
+fn between(dice: &mut Dice, least: u32, most: u32) -> u32 {
+    let near = 1 + dice.below(9);
+    let wide = (most >> 16) - (least >> 16);
+    match dice.below(7) {
+        0 => least,
         1 => most,
-        2 => most - most.min(1 + dice.below(9)),
-        3 => most.min(1 + dice.below(9)),
-        _ => dice.below(most + 1),
+        2 => most - near.min(most - least),
+        3 => least + near.min(most - least),
+        4..=5 if wide > 0 => {
+            let multiple = ((least >> 16) + 1 + dice.below(wide)) << 16;
+            (multiple - 1_024 + dice.below(2_048)).clamp(least, most)
+        }
+        _ => least + dice.below(most - least + 1),
     }
 }
 
@@ -118,8 +157,9 @@ pub fn altered(dice: &mut Dice, mut session: Session) -> Session {
 }
 
 /// A number near a border of the session's own: its blocks, its addresses, its
-/// read range, the ends of 32 bits, or a block whose address would wrap into the
-/// application.
+/// read range, the ends of 32 bits, a block whose address would wrap into the
+/// application, or a number that would be one of these if it were cut to 8 or 16
+/// bits.
 fn strange_number(dice: &mut Dice, session: &Session) -> u32 {
     let (start, end) = (session.a.wrapping_mul(BLOCK), session.b.wrapping_mul(BLOCK));
     let borders = [
@@ -138,6 +178,12 @@ fn strange_number(dice: &mut Dice, session: &Session) -> u32 {
         MOST_BLOCKS as u32 * BLOCK,
         session.up_first.wrapping_add(1 << 22),
         u32::MAX,
+        session.a.wrapping_add(1 << 8),
+        session.b.wrapping_add(1 << 8),
+        session.up_first.wrapping_add(1 << 8),
+        start.wrapping_add(1 << 16),
+        session.down_place.wrapping_add(1 << 16),
+        session.up_len.wrapping_add(1 << 16),
     ];
     let border = borders[dice.below(borders.len() as u32) as usize];
     border.wrapping_add(dice.below(3)).wrapping_sub(1)

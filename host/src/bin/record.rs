@@ -66,12 +66,13 @@ fn calls_bytes(history: &mut History) -> Vec<u8> {
 
 fn start_bytes(call: &Start, flash: &[u8]) -> Vec<u8> {
     let mut bytes = vec![b'S'];
+    bytes.extend((flash.len() as u32).to_le_bytes());
+    bytes.extend(flash);
     bytes.extend((call.lent as u32).to_le_bytes());
     bytes.extend(call.a.to_le_bytes());
     bytes.extend(call.b.to_le_bytes());
     bytes.extend(call.part0.to_le_bytes());
     bytes.extend(call.part1.to_le_bytes());
-    bytes.extend(flash);
     bytes
 }
 

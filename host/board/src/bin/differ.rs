@@ -8,6 +8,8 @@ mod commands;
 mod compare;
 #[path = "differ/eights.rs"]
 mod eights;
+#[path = "differ/large.rs"]
+mod large;
 #[path = "differ/pieces.rs"]
 mod pieces;
 #[path = "differ/rows.rs"]

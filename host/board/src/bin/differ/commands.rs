@@ -187,14 +187,14 @@ impl Rows {
     }
 }
 
-const NAMED: [(u8, &str); 4] = [
+pub const NAMED: [(u8, &str); 4] = [
     (command::PROG, "PROG"),
     (command::READ, "READ"),
     (command::CHECK, "CHECK"),
     (command::ERASE, "ERASE"),
 ];
 
-type Where = fn(&Seen, &Command) -> bool;
+pub type Where = fn(&Seen, &Command) -> bool;
 
 /// How a range can fail to lie in the application.
 const OUTSIDE: [(&str, Where); 7] = [

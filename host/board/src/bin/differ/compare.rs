@@ -25,8 +25,9 @@ pub struct Pair {
 impl Pair {
     pub fn new(seed: u64, number: u64) -> Pair {
         let history = History::new(seed, number);
-        // Every second history is wild: so either kind is moved by each number.
-        let moved = (number / 2 % 8) as usize;
+        // Every second history of a kind is wild: so the tame ones and the wild
+        // ones of either kind are moved by each number.
+        let moved = (history.turn / 2 % 8) as usize;
         Pair {
             flash: [&BEFORE[..moved], &history.flash].concat(),
             moved,

@@ -15,7 +15,7 @@ const BLOCK_BYTES: u64 = BLOCK as u64;
 /// The only byte of a range that is not erased.
 pub struct Lone {
     /// Counted from the range's start.
-    place: u64,
+    pub place: u64,
     value: u8,
     /// How long the range is.
     length: u64,

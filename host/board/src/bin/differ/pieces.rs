@@ -5,7 +5,7 @@ use crate::seen::Seen;
 use mullirim_host::second::{answer, state, status};
 
 impl Rows {
-    fn piece(&mut self, name: &str, holds: impl Fn(&Seen, u32) -> bool + 'static) {
+    pub fn piece(&mut self, name: &str, holds: impl Fn(&Seen, u32) -> bool + 'static) {
         self.add(format!("piece: {name}"), move |seen| {
             seen.piece.is_some_and(|length| holds(seen, length))
         });

@@ -28,6 +28,7 @@ impl Rows {
         rows.commands();
         rows.pieces();
         rows.uploads();
+        rows.large();
         rows
     }
 

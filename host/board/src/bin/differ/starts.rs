@@ -1,20 +1,33 @@
 //! The rows that a start can fall under, each with how often one did.
 
 use crate::seen::bytes;
-use mullirim_host::histories::Start;
+use mullirim_host::histories::{Start, SMALL};
 use mullirim_host::second::{answer, MOST_BLOCKS};
 
 type Row = (&'static str, fn(&Start) -> bool);
 
-const TAKEN: [Row; 4] = [
+const TAKEN: [Row; 9] = [
     ("A is 1", |start| start.a == 1),
     ("one block of application", |start| start.a + 1 == start.b),
     ("B is the most", |start| start.b as usize == MOST_BLOCKS),
+    ("B is the most, A is 1", |start| {
+        start.b as usize == MOST_BLOCKS && start.a == 1
+    }),
+    ("B is the most, one block of application", |start| {
+        start.b as usize == MOST_BLOCKS && start.a + 1 == start.b
+    }),
+    ("B is one under the most", |start| {
+        start.b as usize == MOST_BLOCKS - 1
+    }),
+    ("the last address is 65,535", |start| start.b == SMALL),
+    ("a block at addresses over 65,535", |start| {
+        start.b == SMALL + 1
+    }),
     ("other", |_| true),
 ];
 
 /// Each with nothing else wrong, as far as that can be.
-const REFUSED: [Row; 10] = [
+const REFUSED: [Row; 12] = [
     ("A is 0", |start| start.a == 0 && sized(start)),
     ("A is B", |start| start.a == start.b && sized(start)),
     ("A is over B", |start| {
@@ -28,6 +41,15 @@ const REFUSED: [Row; 10] = [
     }),
     ("flash too long", |start| {
         split(start.a, start.b) && start.lent as u64 > bytes(start.b)
+    }),
+    ("A fits in 8 bits", |start| {
+        let over = (256..65_536).contains(&start.a);
+        over && split(start.a % 256, start.b) && sized(start)
+    }),
+    ("B fits in 8 bits", |start| {
+        let cut = start.b % 256;
+        let over = (256..65_536).contains(&start.b);
+        over && split(start.a, cut) && start.lent as u64 == bytes(cut)
     }),
     ("A fits in 16 bits", |start| {
         start.a > 65_535 && cut(start) && start.b < 65_536

@@ -3,7 +3,7 @@
 use crate::rows::Rows;
 use crate::seen::Seen;
 use crate::starts::Starts;
-use mullirim_host::histories::Start;
+use mullirim_host::histories::{Start, SMALL, SMALL_SPLITS};
 use mullirim_host::second::answer;
 use std::collections::HashSet;
 use std::fmt;
@@ -59,10 +59,20 @@ impl Tally {
         self.start_rows.counts().chain(self.rows.counts())
     }
 
-    /// The rows that this run didn't meet.
+    /// The rows that this run didn't meet, and splits of small flashes.
     pub fn missed(&self) -> Vec<String> {
         let never = self.rows().filter(|(_, count)| *count == 0);
-        never.map(|(name, _)| name).collect()
+        let mut missed: Vec<String> = never.map(|(name, _)| name).collect();
+        let splits = SMALL_SPLITS - self.small_splits();
+        if splits > 0 {
+            missed.push(format!("{splits} splits of up to {SMALL} blocks"));
+        }
+        missed
+    }
+
+    fn small_splits(&self) -> u64 {
+        let small = self.splits.iter().filter(|(_, blocks)| *blocks <= SMALL);
+        small.count() as u64
     }
 }
 
@@ -82,12 +92,15 @@ impl fmt::Display for Tally {
         )?;
         write!(
             out,
-            "{} starts ({} refused, {} with A or B over 65,535) on {} splits. {} rows, each met. No difference.",
+            "{} starts ({} refused, {} with A or B over 65,535) on all {} splits of up to {SMALL} blocks and {} of more. \
+             {} rows, each met {} times or more. No difference.",
             self.starts,
             self.refused_starts,
             self.wide_starts,
-            self.splits.len(),
-            self.rows().count()
+            self.small_splits(),
+            self.splits.len() as u64 - self.small_splits(),
+            self.rows().count(),
+            self.rows().map(|(_, count)| count).min().unwrap_or(0)
         )
     }
 }
@@ -99,8 +112,11 @@ mod tests {
     #[test]
     fn nothing_met_is_all_missed() {
         let tally = Tally::new();
-        assert_eq!(tally.missed().len(), tally.rows().count());
-        assert_eq!(tally.missed()[0], "start: A is 1");
+        let missed = tally.missed();
+        assert_eq!(missed.len(), tally.rows().count() + 1);
+        assert_eq!(missed[0], "start: A is 1");
+        let splits = format!("{SMALL_SPLITS} splits of up to {SMALL} blocks");
+        assert_eq!(missed.last(), Some(&splits));
     }
 
     #[test]
