@@ -8,7 +8,7 @@ SOURCES := crates.txt $(shell find crates -name '*.rt' -o -name '*.antt')
 CHECKED = -std=c11 -g -O1 -Wall -Wextra -DCHECKED -fsanitize=address,undefined -fno-sanitize-recover=all -Iinclude
 
 .PHONY: test quick demo tool soak bench inputs expected host layout library example differ suffixes bundles faults replay checked listed
-.PHONY: said quoted stored names stock setup beside
+.PHONY: said quoted stored names stock setup beside memory
 
 # The gate: the second loader's own tests, the stored outputs against it, the calls for C and Rust, then every proof, every edit that
 # must fail and every program, from nothing. The last line is the prover's own count.
@@ -65,7 +65,8 @@ example: build/libboard.a
 	tools/run build/example > build/example.out
 	$(HOST) example | cmp - build/example.out
 
-# The proved loader beside the second one, call by call, over every split; stops by itself. `soak` goes on until it is stopped.
+# The proved loader beside the second one, call by call, over every split of small flashes and many of large ones; stops by itself. `soak`
+# goes on until it is stopped.
 differ: build/libboard.a
 	$(BOARD) differ > build/differ.said || { cat build/differ.said; false; }
 	@cat build/differ.said
@@ -83,9 +84,13 @@ bundles: build/libboard.a
 	$(FILES) bundles > build/bundles.said || { cat build/bundles.said; false; }
 	@cat build/bundles.said
 
-# The proved calls beside plain Rust and zlib. Figures are for docs/PERFORMANCE.md; nothing tests them.
+# The proved calls beside plain Rust and zlib, and the memory that they take. Figures are for docs/PERFORMANCE.md; nothing tests them.
 bench: build/libboard.a
 	@$(BOARD) bench
+	@$(MAKE) --no-print-directory memory
+
+memory: build/libboard.a
+	@tools/memory
 
 # Today's loader beside that of an earlier commit, many times in one program: make beside COMMIT=... (ARGS=--all). The same holds for it.
 beside: build/libboard.a
@@ -96,10 +101,11 @@ faults: build/libboard.a
 	tools/faults > build/faults.said
 	@cat build/faults.said
 
-# The same kind of histories and files from C, on the libraries as they ship, each buffer beside pages that trap.
+# The same kind of histories and files from C, on the libraries as they ship, each buffer beside pages that trap. So many histories go over
+# every split of small flashes too.
 replay: build/libboard.a
 	tools/shipped board build/replay tests/replay.c
-	$(HOST) record -- 20261116 1200 | tools/run build/replay > build/replay.said || { cat build/replay.said; false; }
+	$(HOST) record -- 20261116 2700 | tools/run build/replay > build/replay.said || { cat build/replay.said; false; }
 	tools/shipped files build/replay_files tests/replay_files.c
 	$(HOST) record_files -- 20261116 20000 | tools/run build/replay_files >> build/replay.said || { cat build/replay.said; false; }
 	@cat build/replay.said
@@ -110,7 +116,7 @@ checked: build/libboard.a
 	build/checked/example > build/checked/example.out
 	$(HOST) example | cmp - build/checked/example.out
 	$(CC) $(CHECKED) tests/replay.c build/checked/libboard.a -o build/checked/replay
-	$(HOST) record -- 20261117 300 | build/checked/replay > build/checked.said || { cat build/checked.said; false; }
+	$(HOST) record -- 20261117 400 | build/checked/replay > build/checked.said || { cat build/checked.said; false; }
 	$(CC) $(CHECKED) tests/replay_files.c build/checked/libfiles.a -o build/checked/replay_files
 	$(HOST) record_files -- 20261117 20000 | build/checked/replay_files >> build/checked.said || { cat build/checked.said; false; }
 	@cat build/checked.said

@@ -1,0 +1,226 @@
+/*
+ * How much memory a board must have for the loader: the bytes of a session, and the bytes of stack that each call uses. Calls run on a
+ * stack of their own that was painted before; what they wrote is no longer of that colour. A call that does nothing shows what this
+ * program's own frames take, with arguments and return address, and that is taken off. Every request must be answered as it should, or
+ * the program fails.
+ *
+ * Only names of the header are used, so that it can be compiled with the header and library of another commit.
+ */
+#define _DEFAULT_SOURCE
+#include <stdio.h>
+#include <stdlib.h>
+#include <string.h>
+#include <ucontext.h>
+#include "mullirim.h"
+
+enum { FIRST = 16, BLOCKS = 64, AT = FIRST * MULLIRIM_BLOCK, STACK = 1 << 20, PROG_DATA = MULLIRIM_REPLY_ROOM - 8 };
+enum { IDLE = 2, SYNC = 3, DOWN_IDLE = 5, UP_IDLE = 9, ERROR = 10 };
+
+/* What a call is lent, and what came of it. */
+static struct {
+    struct mullirim_session session;
+    uint8_t flash[MULLIRIM_MOST_BLOCKS * MULLIRIM_BLOCK];
+    size_t flash_len;
+    uint32_t first;
+    uint8_t setup[8], data[MULLIRIM_REPLY_ROOM], reply[MULLIRIM_REPLY_ROOM];
+    size_t data_len;
+    struct mullirim_answer answer;
+    struct mullirim_started started;
+} lent;
+
+typedef struct mullirim_started start_call(const uint8_t *, size_t, uint32_t, uint32_t, uint32_t, uint32_t);
+typedef struct mullirim_answer request_call(struct mullirim_session *, uint8_t *, size_t, const uint8_t *, size_t, const uint8_t *, size_t,
+                                            uint8_t *, size_t);
+
+/* Read at each call, so that none is made part of its caller. */
+static start_call *volatile start = mullirim_start;
+static request_call *volatile request = mullirim_request;
+
+static struct mullirim_started start_nothing(const uint8_t *flash, size_t len, uint32_t first, uint32_t blocks, uint32_t part, uint32_t klass)
+{
+    struct mullirim_started s;
+
+    (void)flash, (void)len, (void)blocks, (void)part, (void)klass;
+    s.code = first;
+    return s;
+}
+
+static struct mullirim_answer request_nothing(struct mullirim_session *s, uint8_t *flash, size_t flash_len, const uint8_t *setup,
+                                              size_t setup_len, const uint8_t *data, size_t data_len, uint8_t *reply, size_t reply_len)
+{
+    (void)s, (void)flash, (void)flash_len, (void)setup, (void)setup_len, (void)data, (void)data_len, (void)reply, (void)reply_len;
+    return lent.answer;
+}
+
+static void fail(const char *what)
+{
+    printf("stack: %s is not answered as it should be\n", what);
+    exit(1);
+}
+
+static void call_start(void)
+{
+    lent.started = start(lent.flash, lent.flash_len, lent.first, (uint32_t)(lent.flash_len / MULLIRIM_BLOCK), 0, 0);
+}
+
+static void call_request(void)
+{
+    lent.answer = request(&lent.session, lent.flash, lent.flash_len, lent.setup, sizeof lent.setup, lent.data, lent.data_len, lent.reply,
+                          sizeof lent.reply);
+}
+
+/* How far down a call writes on a stack of this colour. */
+static size_t depth(void (*call)(void), int colour)
+{
+    static _Alignas(64) uint8_t stack[STACK];
+    static ucontext_t here, there;
+    size_t untouched = 0;
+
+    memset(stack, colour, STACK);
+    if (getcontext(&there))
+        exit(2);
+    there.uc_stack.ss_sp = stack;
+    there.uc_stack.ss_size = STACK;
+    there.uc_link = &here;
+    makecontext(&there, call, 0);
+    if (swapcontext(&here, &there))
+        exit(2);
+    while (untouched < STACK && stack[untouched] == colour)
+        untouched++;
+    if (untouched == 0)
+        exit(2);
+    return STACK - untouched;
+}
+
+/* A byte that is written may have the colour by chance, so there are two; and the first call of all may be slower than later ones, since
+ * the C library's functions are looked for at the first use of each. `ready` puts all that is lent as it was. */
+static size_t deepest(void (*call)(void), void (*ready)(void))
+{
+    static const int colours[] = {0, 0x5A, 0xA5};
+    size_t most = 0;
+
+    for (size_t i = 0; i < sizeof colours / sizeof *colours; i++) {
+        ready();
+        size_t down = depth(call, colours[i]);
+        if (i > 0 && down > most)
+            most = down;
+    }
+    return most;
+}
+
+/* What is lent is made ready by the case at hand. */
+static void board(uint32_t first, uint32_t blocks, int byte)
+{
+    memset(&lent, 0, sizeof lent);
+    lent.first = first;
+    lent.flash_len = (size_t)blocks * MULLIRIM_BLOCK;
+    memset(lent.flash, byte, lent.flash_len);
+    lent.session = mullirim_start(lent.flash, lent.flash_len, first, blocks, 0, 0).session;
+}
+
+static void setup(uint8_t type, uint8_t number, size_t length)
+{
+    const uint8_t bytes[8] = {type, number, 0, 0, 0, 0, (uint8_t)length, (uint8_t)(length >> 8)};
+
+    memcpy(lent.setup, bytes, 8);
+}
+
+static void dnload(uint8_t number, uint32_t length, size_t data_len)
+{
+    const uint8_t head[8] = {number, 0, FIRST, 0, (uint8_t)length, (uint8_t)(length >> 8), (uint8_t)(length >> 16), 0};
+
+    setup(0x21, 1, data_len);
+    memset(lent.data, 0x31, sizeof lent.data);
+    memcpy(lent.data, head, 8);
+    lent.data_len = data_len;
+}
+
+static void small_start(void) { board(FIRST, BLOCKS, 0x5A); }
+static void large_start(void) { board(1, MULLIRIM_MOST_BLOCKS, 0x5A); }
+static void getstate(void) { board(FIRST, BLOCKS, 0x5A), setup(0xA1, 5, 1); }
+static void getstatus(void) { board(FIRST, BLOCKS, 0x5A), setup(0xA1, 3, 6); }
+static void upload(void) { board(FIRST, BLOCKS, 0x5A), setup(0xA1, 2, MULLIRIM_REPLY_ROOM); }
+static void prog(void) { board(FIRST, BLOCKS, 0xFF), dnload(1, 2 * MULLIRIM_BLOCK, MULLIRIM_REPLY_ROOM); }
+static void erase(void) { board(FIRST, BLOCKS, 0x5A), dnload(4, 1, 8); }
+static void check(void) { board(FIRST, BLOCKS, 0xFF), dnload(3, (BLOCKS - FIRST) * MULLIRIM_BLOCK, 8); }
+static void stalled(void) { board(FIRST, BLOCKS, 0x5A), setup(0x21, 4, 0); }
+static void unfit(void) { board(FIRST, BLOCKS, 0x5A), setup(0xA1, 5, 1), lent.session.phase.status = 1; }
+
+/* The data behind a PROG: a whole piece, in state 5. */
+static void piece(void)
+{
+    prog();
+    call_request();
+    setup(0xA1, 3, 6), lent.data_len = 0;
+    call_request();
+    setup(0x21, 1, MULLIRIM_REPLY_ROOM), lent.data_len = MULLIRIM_REPLY_ROOM;
+}
+
+/* What a request must come to: code, count, the reply's first byte, the state, and the byte at a place of the flash. */
+struct awaited {
+    uint32_t code, count;
+    uint8_t first, state;
+    size_t place;
+    uint8_t byte;
+};
+
+static const struct {
+    const char *name;
+    void (*ready)(void);
+    struct awaited awaited;
+} requests[] = {
+    {"GETSTATE", getstate, {MULLIRIM_TAKEN, 1, IDLE, IDLE, AT, 0x5A}},
+    {"GETSTATUS", getstatus, {MULLIRIM_TAKEN, 6, 0, IDLE, AT, 0x5A}},
+    {"UPLOAD of 1,024 bytes", upload, {MULLIRIM_TAKEN, MULLIRIM_REPLY_ROOM, 1, UP_IDLE, AT, 0x5A}},
+    {"PROG with 1,016 bytes of data", prog, {MULLIRIM_TAKEN, 0, 0, SYNC, AT + PROG_DATA - 1, 0x31}},
+    {"piece of 1,024 bytes", piece, {MULLIRIM_TAKEN, 0, 0, SYNC, AT + PROG_DATA + MULLIRIM_REPLY_ROOM - 1, 0x31}},
+    {"ERASE of one block", erase, {MULLIRIM_TAKEN, 0, 0, SYNC, AT + MULLIRIM_BLOCK - 1, 0xFF}},
+    {"CHECK of 49,152 bytes", check, {MULLIRIM_TAKEN, 0, 0, SYNC, AT, 0xFF}},
+    {"stalled: CLRSTATUS in state 2", stalled, {MULLIRIM_STALLED, 0, 0, ERROR, AT, 0x5A}},
+    {"unfit: GETSTATE, session broken", unfit, {MULLIRIM_UNFIT, 0, 0, IDLE, AT, 0x5A}},
+};
+
+static void print(const char *name, size_t bytes)
+{
+    printf("%-38s %7zu\n", name, bytes);
+}
+
+/* The sums that a start must find are those of the same bytes in any block. */
+static void print_start(const char *name, void (*ready)(void), size_t own)
+{
+    char text[64];
+    size_t down = deepest(call_start, ready);
+    const struct mullirim_session *s = &lent.started.session;
+    uint32_t last = s->board.blocks - 1;
+
+    if (lent.started.code != MULLIRIM_TAKEN || s->sums.block[lent.first] == 0 || s->sums.block[last] != s->sums.block[lent.first])
+        fail(name);
+    snprintf(text, sizeof text, "%s, A = %u, B = %u", name, (unsigned)lent.first, (unsigned)last + 1);
+    print(text, down - own);
+}
+
+static void print_request(size_t i, size_t own)
+{
+    const struct awaited *w = &requests[i].awaited;
+    size_t down = deepest(call_request, requests[i].ready);
+
+    if (lent.answer.code != w->code || lent.answer.count != w->count || lent.reply[0] != w->first)
+        fail(requests[i].name);
+    if (lent.session.phase.state != w->state || lent.flash[w->place] != w->byte)
+        fail(requests[i].name);
+    print(requests[i].name, down - own);
+}
+
+int main(void)
+{
+    print("session, bytes", sizeof(struct mullirim_session));
+    puts("stack, bytes that a call writes:");
+    start = start_nothing, request = request_nothing;
+    size_t own_start = deepest(call_start, small_start), own_request = deepest(call_request, getstate);
+    start = mullirim_start, request = mullirim_request;
+    print_start("start", small_start, own_start);
+    print_start("start", large_start, own_start);
+    for (size_t i = 0; i < sizeof requests / sizeof *requests; i++)
+        print_request(i, own_request);
+    return 0;
+}
