@@ -79,6 +79,18 @@ mod tests {
         }
     }
 
+    /// The first and the last application that so many blocks can have.
+    #[test]
+    fn the_most_blocks_are_summed() {
+        let most = MOST_BLOCKS as u32;
+        let flash: Vec<u8> = (0..most * BLOCK).map(|i| (i * 7 + i / 256) as u8).collect();
+        for first in [1, most - 1] {
+            let started = start(&flash, first, most, 7, 9);
+            let (_, awaited) = second::start(&flash, first, most, 7, 9);
+            assert_eq!(second::Session::from(&started.session), awaited);
+        }
+    }
+
     #[test]
     fn a_query_is_answered() {
         let mut flash = vec![0x5A; 65_536];

@@ -17,7 +17,7 @@ pub fn compare() -> Compared {
 }
 
 fn on(board: Board) -> Compared {
-    let what = board.named("piece of 1024 bytes");
+    let what = board.named("piece of 1024");
     let piece = noise(TRANSFER);
     let mut flash = vec![ERASED; board.bytes()];
     let session = awaiting(board, &mut flash);

@@ -92,13 +92,7 @@ impl Rows {
     }
 
     fn info_of_large(&mut self) {
-        let rows: [(&str, fn(&Session) -> bool); 2] = [
-            ("of the most blocks", |lent| lent.b == MOST),
-            ("the application's address of more than 16 bits", |lent| {
-                bytes(lent.a) >= WIDE
-            }),
-        ];
-        for (what, holds) in rows {
+        for (what, holds) in INFO {
             self.add(format!("upload of the info bytes: {what}"), move |seen| {
                 let info = seen.upload.is_some() && seen.lent().up_choice == INFO_STREAM;
                 info && seen.lent().up_place == 0 && seen.outcome.count == 20 && holds(seen.lent())
@@ -200,7 +194,9 @@ const OUTSIDE: [(&str, Where); 5] = [
     ),
 ];
 
-const ALONE: [(&str, fn(&Command, &Lone) -> bool); 3] = [
+type Alone = fn(&Command, &Lone) -> bool;
+
+const ALONE: [(&str, Alone); 3] = [
     ("at an address of more than 16 bits", |command, lone| {
         command.range().start + lone.place >= WIDE
     }),
@@ -213,7 +209,9 @@ const ALONE: [(&str, fn(&Command, &Lone) -> bool); 3] = [
 ];
 
 /// By the addresses that a piece was written to.
-const WRITTEN: [(&str, fn(&Seen, Range<u64>) -> bool); 6] = [
+type Written = fn(&Seen, Range<u64>) -> bool;
+
+const WRITTEN: [(&str, Written); 6] = [
     ("at an address of more than 16 bits", |_, written| {
         written.start >= WIDE
     }),
@@ -234,7 +232,9 @@ const WRITTEN: [(&str, fn(&Seen, Range<u64>) -> bool); 6] = [
 ];
 
 /// By the places of the stream that were answered.
-const READ: [(&str, fn(&Session, Range<u64>) -> bool); 6] = [
+type Read = fn(&Session, Range<u64>) -> bool;
+
+const READ: [(&str, Read); 6] = [
     ("begun, over 65,535 bytes", |lent, places| {
         places.start == 0 && u64::from(lent.up_len) >= WIDE
     }),
@@ -251,6 +251,16 @@ const READ: [(&str, fn(&Session, Range<u64>) -> bool); 6] = [
     ("the last byte of the most blocks", |lent, places| {
         !places.is_empty() && addresses(lent, places).end == bytes(MOST)
     }),
+];
+
+type Info = fn(&Session) -> bool;
+
+const INFO: [(&str, Info); 2] = [
+    ("of the most blocks", |lent| lent.b == MOST),
+    (
+        "an application at an address of more than 16 bits",
+        |lent| bytes(lent.a) >= WIDE,
+    ),
 ];
 
 fn length(command: &Command) -> u64 {
