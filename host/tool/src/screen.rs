@@ -6,6 +6,8 @@ use std::io::{self, ErrorKind, Write};
 /// worth showing.
 const WIDTH: usize = 40;
 const NARROW: usize = 4;
+/// How long a line may be where no terminal tells.
+const PAGE: usize = 79;
 /// Lines that belong to a step stand under its words.
 pub const INDENT: &str = "             ";
 
@@ -66,7 +68,7 @@ impl<W: Write> Screen<W> {
             }
             _ if done < all => (),
             Some(_) => self.under(&bar(done, all, 0)),
-            None => self.under(&bar(done, all, WIDTH)),
+            None => self.under(&bar(done, all, marks(PAGE - numbers))),
         }
     }
 
@@ -230,6 +232,19 @@ mod tests {
     fn elsewhere_the_full_bar_is_one_line() {
         let full = bar(1_024, 1_024, 40);
         assert_eq!(drawn(None), format!("{INDENT}{full}\nnext\n"));
+    }
+
+    #[test]
+    fn elsewhere_no_line_is_too_long_for_a_page() {
+        for all in [1, 49_152, 261_120, 1_000_000] {
+            let mut out = Vec::new();
+            Screen::new(&mut out, None).progress(all, all);
+            let line = String::from_utf8(out).unwrap();
+            assert!(
+                line.trim_end().len() <= PAGE && line.contains("[####"),
+                "{line}"
+            );
+        }
     }
 
     #[test]

@@ -89,8 +89,28 @@ fn remarks(difference: &Difference) -> Vec<String> {
     remarks
 }
 
+/// Three or more in a row are told by the first and the last of them: there may be
+/// hundreds.
 fn listed(blocks: &[usize]) -> String {
-    let numbers: Vec<String> = blocks.iter().map(usize::to_string).collect();
+    let rows = blocks.chunk_by(|block, next| block + 1 == *next);
+    let told = rows.flat_map(|row| match row {
+        [first, _, .., last] => vec![format!("{first} to {last}")],
+        few => few.iter().map(usize::to_string).collect(),
+    });
     let s = if blocks.len() == 1 { "" } else { "s" };
-    format!("block{s} {}", numbers.join(", "))
+    format!("block{s} {}", told.collect::<Vec<_>>().join(", "))
+}
+
+#[cfg(test)]
+mod tests {
+    use super::*;
+
+    #[test]
+    fn blocks_in_a_row_are_told_by_their_ends() {
+        assert_eq!(listed(&[7]), "block 7");
+        assert_eq!(listed(&[0, 1]), "blocks 0, 1");
+        assert_eq!(listed(&[0, 1, 2]), "blocks 0 to 2");
+        let some: Vec<usize> = (3..200).chain([202, 203, 255]).collect();
+        assert_eq!(listed(&some), "blocks 3 to 199, 202, 203, 255");
+    }
 }

@@ -2,9 +2,20 @@
 
 use crate::folder::{some_flash, Folder};
 use crate::json::{self, Json};
-use mullirim_host::second::{answer, start, sum};
+use mullirim_host::second::{answer, start, sum, MOST_BLOCKS};
 
-const SPLITS: [(usize, usize); 6] = [(1, 2), (2, 4), (1, 17), (16, 64), (63, 64), (1, 64)];
+const SPLITS: [(usize, usize); 10] = [
+    (1, 2),
+    (2, 4),
+    (1, 17),
+    (16, 64),
+    (63, 64),
+    (1, 64),
+    (64, 65),
+    (1, MOST_BLOCKS),
+    (16, MOST_BLOCKS),
+    (MOST_BLOCKS - 1, MOST_BLOCKS),
+];
 
 fn split(first: usize, blocks: usize) -> String {
     format!("{first}:{blocks}")
@@ -43,6 +54,34 @@ fn a_flash_has_the_sums_that_its_bits_have() {
     assert_eq!(folder.names(), ["f"]);
 }
 
+/// Of the most blocks there are, three differ, and all blocks before them.
+#[test]
+fn the_most_blocks_are_compared() {
+    let folder = Folder::new("most");
+    let (first, most) = (16, MOST_BLOCKS);
+    let old = some_flash(7, most as u32);
+    let mut new = old.clone();
+    new[..first * 1_024].fill(0);
+    let changed = [first, most / 2, most - 1];
+    for number in changed {
+        new[number * 1_024 + 500] ^= 1;
+    }
+    folder.put("old", &old);
+    folder.put("new", &new);
+    let [before, after] = [&old, &new].map(|flash| start(flash, 16, most as u32, 0, 0).1);
+    let mut table = format!("3 blocks differ, {} do not\n\n", most - first - 3);
+    table += "block   old sum    new sum\n";
+    for number in changed {
+        let (old, new) = (before.sums[number], after.sums[number]);
+        table += &format!("{number:>5}   {old:08X}   {new:08X}\n");
+    }
+    table += &format!("whole   {:08X}   {:08X}\n", before.whole, after.whole);
+    let remark = "\nother bytes before the application, of which no sum is kept: blocks 0 to 15\n";
+    let split = split(first, most);
+    let said = folder.done(&["sums", "--compare", "old", "new", "--split", &split]);
+    assert!(said.ends_with(&(table + remark)), "{said}");
+}
+
 #[test]
 fn without_a_split_it_is_16_of_64() {
     let folder = Folder::new("usual");
@@ -64,7 +103,7 @@ fn an_image_has_the_sums_that_it_will_have_in_flash() {
             if length > room {
                 continue;
             }
-            let image = some_flash(length as u64, 64)[..length].to_vec();
+            let image = some_flash(length as u64, blocks as u32)[..length].to_vec();
             folder.put("i", &image);
             let split = split(first, blocks);
             let said = folder.done(&["sums", "--image", "i", "--split", &split]);

@@ -1,6 +1,7 @@
 //! `mullirim visit`, and help everywhere.
 
-use crate::folder::Folder;
+use crate::folder::{some_flash, Folder};
+use mullirim_host::second::{start, MOST_BLOCKS};
 
 #[test]
 fn help_is_shown_everywhere() {
@@ -68,4 +69,60 @@ fn a_visit_that_is_refused_writes_nothing() {
                --split 1 to 63 would fit";
     folder.refused(&words, 1, why);
     assert!(folder.names().is_empty());
+}
+
+/// The application of a flash of the most blocks, with a byte of every third block
+/// put right and its last 700 bytes left out.
+fn corrected(flash: &[u8], first: usize) -> Vec<u8> {
+    let mut image = flash[first * 1_024..flash.len() - 700].to_vec();
+    image
+        .iter_mut()
+        .step_by(3 * 1_024)
+        .for_each(|byte| *byte ^= 1);
+    image
+}
+
+/// What a visit must show of the sums, by the loader that goes bit by bit.
+fn sums_shown(old: &[u8], new: &[u8], first: usize) -> String {
+    let [old, new] = [old, new].map(|flash| start(flash, first as u32, MOST_BLOCKS as u32, 0, 0).1);
+    let row = |name: &str, old, new| format!("             {name:>5}   {old:08X}   {new:08X}\n");
+    let other = |block: &usize| old.sums[*block] != new.sums[*block];
+    let changed: Vec<usize> = (first..MOST_BLOCKS).filter(other).collect();
+    let same = MOST_BLOCKS - first - changed.len();
+    let s = if changed.len() == 1 { "" } else { "s" };
+    let mut text = format!(
+        "5 Sums       {} block{s} changed, {same} did not\n\n",
+        changed.len()
+    );
+    text += "             block   old sum    new sum\n";
+    for block in changed {
+        text += &row(&block.to_string(), old.sums[block], new.sums[block]);
+    }
+    text + &row("whole", old.whole, new.whole)
+}
+
+#[test]
+fn a_flash_of_the_most_blocks_is_visited() {
+    let folder = Folder::new("most");
+    for first in [1, 16, MOST_BLOCKS - 1] {
+        let flash = some_flash(first as u64, MOST_BLOCKS as u32);
+        let image = corrected(&flash, first);
+        let mut left = [&flash[..first * 1_024], &image].concat();
+        left.resize(flash.len(), 0xFF);
+        folder.put("f", &flash);
+        folder.put("i", &image);
+        let split = first.to_string();
+        let words = ["visit", "--flash", "f", "--image", "i", "--split", &split];
+        let said = folder.done(&[&words[..], &["--save", "s", "--after", "a"]].concat());
+        assert_eq!(folder.get("s"), flash[first * 1_024..]);
+        assert_eq!(folder.get("a"), left);
+        let last = MOST_BLOCKS - 1;
+        let board = format!(
+            "{MOST_BLOCKS} blocks of 1,024 bytes, the application from block {first} to {last}\n"
+        );
+        assert!(said.contains(&board), "{said}");
+        assert!(said.contains(&sums_shown(&flash, &left, first)), "{said}");
+        assert!(said.ends_with("Done: the image is in place and every sum is right.\n"));
+        assert!(said.lines().all(|line| line.len() < 80), "{said}");
+    }
 }
