@@ -29,10 +29,11 @@ use std::process::ExitCode;
 /// A case tries something on the bench, and says what was not as it should be.
 type Case = fn(&mut Bench) -> Result<(), String>;
 
-const CASES: [(&str, Case); 31] = [
+const CASES: [(&str, Case); 32] = [
     ("list", uploads::list),
     ("upload whole", uploads::whole),
     ("upload what a command chose", uploads::chosen),
+    ("upload from a board of the most blocks", uploads::far),
     ("upload in small requests", uploads::small),
     ("upload onto a file that is there", uploads::onto_a_file),
     ("download odd lengths", downloads::odd_lengths),

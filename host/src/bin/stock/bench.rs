@@ -2,7 +2,8 @@
 //! what is held to what after each run.
 
 use mullirim_host::layout::{self, Laid};
-use mullirim_host::second::{answer, start, state, status, step, Session, BLOCK, ERASED, TRANSFER};
+use mullirim_host::second::{answer, start, state, status, step, Session};
+use mullirim_host::second::{BLOCK, ERASED, MOST_BLOCKS, TRANSFER};
 use std::fs::{self, File};
 use std::path::{Path, PathBuf};
 use std::process::{Child, Command, Stdio};
@@ -15,6 +16,9 @@ pub const BOARD: &str = "1209:0001";
 pub const IN_DFU_MODE: &str = ",1209:0001";
 pub const VENDOR: u16 = 0x1209;
 pub const PRODUCT: u16 = 0x0001;
+
+/// The most blocks that a board's flash may have.
+pub const MOST: u32 = MOST_BLOCKS as u32;
 
 /// The part numbers that the stand-in starts the loader with.
 const PARTS: (u32, u32) = (0x4D4C_0001, 0x4D4C_0002);

@@ -1,6 +1,6 @@
 //! Downloads that are carried out.
 
-use crate::bench::{erased, written, Bench, Left};
+use crate::bench::{erased, written, Bench, Left, MOST};
 use crate::files::{as_the_package_does, image, prefixed, whole_file};
 use mullirim_host::second::{state, status, BLOCK};
 
@@ -51,7 +51,9 @@ pub fn odd_lengths(bench: &mut Bench) -> Result<(), String> {
 
 /// All of the application, and all but its last byte, on boards of every kind.
 pub fn whole(bench: &mut Bench) -> Result<(), String> {
-    for (first, blocks) in [(1, 2), (3, 7), (16, 64), (1, 64), (63, 64), (32, 33)] {
+    let small = [(1, 2), (3, 7), (16, 64), (1, 64), (63, 64), (32, 33)];
+    let large = [(64, 65), (1, MOST), (16, MOST), (MOST - 1, MOST)];
+    for (first, blocks) in small.into_iter().chain(large) {
         for short in [0, 1] {
             let image = image((blocks - first) * BLOCK - short);
             bench.power_on(first, erased(first, blocks))?;
@@ -73,7 +75,7 @@ pub fn no_suffix(bench: &mut Bench) -> Result<(), String> {
 /// What was read out is a file to send: after an erase it brings back every
 /// byte. Without an erase it is refused, and nothing changes.
 pub fn there_and_back(bench: &mut Bench) -> Result<(), String> {
-    for (first, blocks) in [(16, 64), (1, 3), (5, 6)] {
+    for (first, blocks) in [(16, 64), (1, 3), (5, 6), (16, MOST), (MOST - 1, MOST)] {
         let before = written(blocks);
         bench.power_on(first, before.clone())?;
         bench.remove("read-out");

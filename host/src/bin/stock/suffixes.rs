@@ -2,7 +2,7 @@
 //! takes what the other makes and refuses what the other refuses, but for two
 //! kinds of files with which the tool is stricter.
 
-use crate::bench::{erased, same_bytes, written, Bench, Run};
+use crate::bench::{erased, same_bytes, written, Bench, Run, MOST};
 use crate::files::{image, suffixed_for};
 use mullirim_host::second::{sum, BLOCK};
 
@@ -215,7 +215,7 @@ pub fn otherwise(bench: &mut Bench) -> Result<(), String> {
 /// Files that `dfu-prefix` and `dfu-suffix` made, in a visit: the image lands
 /// alone, and what was around it is told.
 pub fn visit(bench: &mut Bench) -> Result<(), String> {
-    for (first, blocks) in [(16, 64), (1, 2), (3, 7)] {
+    for (first, blocks) in [(16, 64), (1, 2), (3, 7), (16, MOST), (MOST - 1, MOST)] {
         for length in [1, 1_000, (blocks - first) * BLOCK] {
             let image = image(length);
             bench.lay("packed", &image)?;

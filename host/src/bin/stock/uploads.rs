@@ -1,6 +1,6 @@
 //! Listing, and uploads.
 
-use crate::bench::{same_bytes, written, Bench, Left};
+use crate::bench::{same_bytes, written, Bench, Left, MOST};
 use crate::files::prefixed;
 use mullirim_host::second::{state, status, BLOCK};
 
@@ -52,7 +52,9 @@ fn gives(bench: &mut Bench, wanted: &[u8]) -> Result<(), String> {
 /// The application behind its header; and once more, since the board is still
 /// in the first upload.
 pub fn whole(bench: &mut Bench) -> Result<(), String> {
-    for (first, blocks) in [(16, 64), (1, 2), (3, 7), (1, 64), (63, 64)] {
+    let small = [(16, 64), (1, 2), (3, 7), (1, 64), (63, 64)];
+    let large = [(64, 65), (1, MOST), (16, MOST), (MOST - 1, MOST)];
+    for (first, blocks) in small.into_iter().chain(large) {
         bench.power_on(first, written(blocks))?;
         let file = prefixed(first, &written(blocks)[(first * BLOCK) as usize..]);
         gives(bench, &file)?;
@@ -84,6 +86,30 @@ pub fn chosen(bench: &mut Bench) -> Result<(), String> {
         [2, 0, 0x4C, 0x4D],
         [0, 0, 1, 0],    // where the application ends
         [0, 0x40, 0, 0], // and where it starts
+    ];
+    gives(bench, &info.concat())
+}
+
+/// The same on a board of the most blocks, at addresses of more than 16 bits.
+pub fn far(bench: &mut Bench) -> Result<(), String> {
+    let flash = written(MOST);
+    bench.power_on(200, flash.clone())?;
+    let tell = |bench: &mut Bench, words: &[&str]| {
+        let run = bench.command(words)?;
+        bench.hold(&run, &Left::done(written(MOST)))
+    };
+    for (block, length) in [(MOST - 1, BLOCK), (210, 40_000)] {
+        tell(bench, &["read", &block.to_string(), &length.to_string()])?;
+        let range = &flash[(block * BLOCK) as usize..][..length as usize];
+        gives(bench, &prefixed(block, range))?;
+    }
+    tell(bench, &["info"])?;
+    let info = [
+        [0, 4, 0, 1],
+        [1, 0, 0x4C, 0x4D],
+        [2, 0, 0x4C, 0x4D],
+        [0, 0, 4, 0],
+        [0, 0x20, 3, 0],
     ];
     gives(bench, &info.concat())
 }
