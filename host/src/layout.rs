@@ -299,8 +299,8 @@ mod tests {
     #[test]
     fn a_session_is_the_same_there_and_back() {
         let mut dice = Dice::new(4);
-        for _ in 0..100 {
-            let second = sessions::fit(&mut dice, 9);
+        for b in [9; 100].into_iter().chain([MOST_BLOCKS as u32; 100]) {
+            let second = sessions::fit(&mut dice, b);
             let session = Session::from(&second);
             assert_eq!(second::Session::from(&session), second);
         }
@@ -318,7 +318,9 @@ mod tests {
         assert_eq!(bytes[offset_of!(Session, phase)], second.state);
         assert_eq!(bytes[upload + 1], second.up_prefix);
         assert_eq!(long(upload + offset_of!(Upload, len)), second.up_len);
-        assert_eq!(long(sums + 4 * 7), second.sums[7]);
+        for block in [0, 7, MOST_BLOCKS - 1] {
+            assert_eq!(long(sums + 4 * block), second.sums[block]);
+        }
         assert_eq!(long(bytes.len() - 4), second.whole);
     }
 }
