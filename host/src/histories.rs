@@ -31,7 +31,7 @@ const BORDERS: [(u32, u32); 11] = [
     (SMALL / 4, MOST),
 ];
 /// The longest flash that is ever lent: a block more than the most.
-pub const FLASH_ROOM: usize = (MOST_BLOCKS + 1) * BLOCK as usize;
+const FLASH_ROOM: usize = (MOST_BLOCKS + 1) * BLOCK as usize;
 /// The longest that a history of a small flash lends.
 const SMALL_ROOM: usize = ((SMALL + 1) * BLOCK) as usize;
 /// The longest reply buffer that is ever lent.

@@ -896,40 +896,45 @@ mod tests {
 
     const MOST: u32 = MOST_BLOCKS as u32;
 
-    /// One command in state 2 on an erased board of the most blocks: its answer,
-    /// and where the session stands.
-    fn commanded(a: u32, data: &[u8]) -> (u8, Session, Vec<u8>) {
+    /// One command in state 2 on an erased board of the most blocks.
+    fn commanded(a: u32, command: &[u8]) -> (u8, Session, Vec<u8>) {
         let mut flash = vec![ERASED; (MOST * BLOCK) as usize];
         let session = start(&flash, a, MOST, 0, 0).1;
-        let setup = [0x21, 1, 0, 0, 0, 0, data.len() as u8, 0];
-        let out = step(&session, &mut flash, &setup, data, &mut [0; TRANSFER]);
+        let setup = [0x21, 1, 0, 0, 0, 0, command.len() as u8, 0];
+        let out = step(&session, &mut flash, &setup, command, &mut [0; TRANSFER]);
         (out.answer, out.session, flash)
     }
 
-    /// B has more than eight bits, and B × 1,024 more than 16.
+    /// B may have more than 8 bits, and addresses more than 16.
     #[test]
     fn info_of_the_most_blocks() {
-        let (_, session, mut flash) = commanded(255, &[5, 0, 0, 0, 0, 0, 0, 0]);
+        let (_, session, mut flash) = commanded(MOST - 1, &[5, 0, 0, 0, 0, 0, 0, 0]);
         let idle = session.entering(state::IDLE);
         let mut reply = [0xEE; TRANSFER];
-        step(&idle, &mut flash, &UPLOAD, &[], &mut reply);
-        assert_eq!(reply[..4], [0x00, 0x04, 0x00, 0x01]);
-        assert_eq!(
-            reply[12..21],
-            [0x00, 0x00, 0x04, 0x00, 0x00, 0xFC, 0x03, 0x00, 0xEE]
-        );
+        let out = step(&idle, &mut flash, &UPLOAD, &[], &mut reply);
+        let sizes = (MOST << 16 | BLOCK).to_le_bytes();
+        let ends = [MOST * BLOCK, (MOST - 1) * BLOCK].map(u32::to_le_bytes);
+        let info = [&sizes[..], &[0; 8], &ends.concat()].concat();
+        assert_eq!(reply[..out.count as usize], info);
     }
 
     #[test]
     fn the_last_of_the_most_blocks_is_written_and_the_next_is_not() {
-        let (answer, session, flash) = commanded(1, &[1, 0, 255, 0, 0, 4, 0, 0, 0x31, 0x32]);
+        let [low, high] = (MOST as u16 - 1).to_le_bytes();
+        let last = ((MOST - 1) * BLOCK) as usize;
+        let (answer, session, flash) = commanded(1, &[1, 0, low, high, 0, 4, 0, 0, 0x31, 0x32]);
         assert_eq!((answer, session.state), (answer::TAKEN, state::DOWN_SYNC));
-        assert_eq!((session.down_place, session.down_left), (261_122, 1_022));
-        assert_eq!(flash[261_119..261_123], [ERASED, 0x31, 0x32, ERASED]);
-        assert_eq!(session.sums[255], sum(&flash[261_120..]));
+        assert_eq!(session.down_place as usize, last + 2);
+        assert_eq!(session.down_left, 1_022);
+        assert_eq!(flash[last - 1..last + 3], [ERASED, 0x31, 0x32, ERASED]);
+        assert_eq!(session.sums[MOST_BLOCKS - 1], sum(&flash[last..]));
         assert_eq!(session.whole, sum(&flash[1_024..]));
-        for data in [[4, 0, 0, 1, 1, 0, 0, 0], [3, 0, 255, 0, 1, 4, 0, 0]] {
-            let (answer, session, _) = commanded(1, &data);
+        let [next, over] = (MOST as u16).to_le_bytes();
+        for command in [
+            [4, 0, next, over, 1, 0, 0, 0],
+            [3, 0, low, high, 1, 4, 0, 0],
+        ] {
+            let (answer, session, _) = commanded(1, &command);
             assert_eq!((answer, session.status), (answer::FAULTED, status::ADDRESS));
         }
     }

@@ -92,24 +92,24 @@ pub fn chosen(bench: &mut Bench) -> Result<(), String> {
 
 /// The same on a board of the most blocks, at addresses of more than 16 bits.
 pub fn far(bench: &mut Bench) -> Result<(), String> {
-    let flash = written(MOST);
-    bench.power_on(200, flash.clone())?;
+    let (first, flash) = (MOST - 56, written(MOST));
+    bench.power_on(first, flash.clone())?;
     let tell = |bench: &mut Bench, words: &[&str]| {
         let run = bench.command(words)?;
         bench.hold(&run, &Left::done(written(MOST)))
     };
-    for (block, length) in [(MOST - 1, BLOCK), (210, 40_000)] {
+    for (block, length) in [(MOST - 1, BLOCK), (first + 10, 40_000)] {
         tell(bench, &["read", &block.to_string(), &length.to_string()])?;
         let range = &flash[(block * BLOCK) as usize..][..length as usize];
         gives(bench, &prefixed(block, range))?;
     }
     tell(bench, &["info"])?;
     let info = [
-        [0, 4, 0, 1],
+        (MOST << 16 | BLOCK).to_le_bytes(),
         [1, 0, 0x4C, 0x4D],
         [2, 0, 0x4C, 0x4D],
-        [0, 0, 4, 0],
-        [0, 0x20, 3, 0],
+        (MOST * BLOCK).to_le_bytes(),
+        (first * BLOCK).to_le_bytes(),
     ];
     gives(bench, &info.concat())
 }
