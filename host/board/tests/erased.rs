@@ -3,7 +3,7 @@
 
 use mullirim_board::{request, start, Session};
 use mullirim_host::layout::{Download, Phase};
-use mullirim_host::second::{answer, command, state, status, BLOCK, ERASED};
+use mullirim_host::second::{answer, command, state, status, BLOCK, ERASED, MOST_BLOCKS};
 use mullirim_host::tape::{header, setup};
 
 const TAKEN: u32 = answer::TAKEN as u32;
@@ -166,6 +166,29 @@ fn a_check_of_the_application_goes_no_further() {
     at_each_alignment(|board| {
         (all - 16..=all).for_each(|length| board.sweep(&check(FIRST, length), 0x7F));
     });
+}
+
+/// At either end of each block, and of its first eight bytes.
+#[test]
+fn a_check_of_the_most_blocks_finds_a_byte_in_each() {
+    let most = MOST_BLOCKS as u32;
+    let mut flash = vec![ERASED; (most * BLOCK) as usize];
+    let session = start(&flash, 1, most, 0, 0).session;
+    let asked = header(command::CHECK, 1, (most - 1) * BLOCK);
+    let checked = |flash: &mut [u8]| {
+        let mut session = session;
+        let setup = setup(0x21, 1, asked.len() as u16);
+        request(&mut session, flash, &setup, &asked, &mut [0; 1_024]).code
+    };
+    assert_eq!(checked(&mut flash), TAKEN);
+    for block in 0..MOST_BLOCKS {
+        for place in [0, 7, 8, 1_023].map(|place| block * BLOCK as usize + place) {
+            flash[place] = 0x7F;
+            let awaited = [FAULTED, TAKEN][usize::from(block == 0)];
+            assert_eq!(checked(&mut flash), awaited, "{place}");
+            flash[place] = ERASED;
+        }
+    }
 }
 
 #[test]
