@@ -225,10 +225,13 @@ const WRITTEN: [(&str, Written); 6] = [
     ("of over 65,535 that are awaited", |seen, _| {
         u64::from(seen.lent().down_left) >= WIDE
     }),
-    ("more than 16 bits tell to be awaited", |seen, written| {
-        let left = u64::from(seen.lent().down_left);
-        left >= WIDE && written.end - written.start > left % WIDE
-    }),
+    (
+        "longer than what is awaited, cut to 16 bits",
+        |seen, written| {
+            let left = u64::from(seen.lent().down_left);
+            left >= WIDE && written.end - written.start > left % WIDE
+        },
+    ),
 ];
 
 /// By the places of the stream that were answered.
