@@ -206,7 +206,11 @@ impl History {
         match dice.below(48) {
             _ if !self.wild => self.session.clone(),
             0..=3 => sessions::fit(dice, self.b),
-            4..=8 => sessions::altered(dice, self.session.clone()),
+            4..=6 => sessions::altered(dice, self.session.clone()),
+            7..=8 => {
+                let session = sessions::fit(dice, self.b);
+                sessions::altered(dice, session)
+            }
             9 => sessions::junk(dice),
             10 => Session::zeros(),
             11 if self.large => self.of_a_block_too_many(),

@@ -197,6 +197,7 @@ fn piece(dice: &mut Dice, left: u32) -> Vec<u8> {
     let length = match dice.below(12) {
         0 => 0,
         1 => (left + 1).min(1_024),
+        2 if left >> 16 > 0 => 0,
         2..=6 => dice.below(most + 1),
         _ => most,
     };

@@ -26,9 +26,9 @@ const STATUSES: [u8; 5] = [
 /// rule judges them.
 pub fn fit(dice: &mut Dice, b: u32) -> Session {
     let a = some_first(dice, b);
-    let state = match dice.below(8) {
+    let state = match dice.below(9) {
         6 => state::DOWN_IDLE,
-        7 => state::UP_IDLE,
+        7..=8 => state::UP_IDLE,
         place => STATES[place as usize],
     };
     let mut session = Session {
@@ -76,7 +76,7 @@ fn choose_phase(dice: &mut Dice, session: &mut Session) {
 
 fn choose_upload(dice: &mut Dice, session: &mut Session) {
     let offset = dice.below(session.b - session.a) * dice.below(2);
-    session.up_choice = [FLASH_STREAM, FLASH_STREAM, INFO_STREAM][dice.below(3) as usize];
+    session.up_choice = [FLASH_STREAM, INFO_STREAM][usize::from(dice.below(4) == 0)];
     session.up_prefix = dice.below(2) as u8;
     session.up_first = session.a + offset;
     let most = (session.b - session.up_first) * BLOCK;
@@ -90,19 +90,26 @@ fn choose_upload(dice: &mut Dice, session: &mut Session) {
     }
 }
 
-/// A place up to the stream's end, at times one from which address 65,536 or place
-/// 65,536 is read on.
+/// A place up to the stream's end, at times one from which address 65,536, place
+/// 65,536 or the last byte is read.
 fn upload_place(dice: &mut Dice, session: &Session) -> u32 {
     let prefix = 8 * u32::from(session.up_prefix);
-    let end = match session.up_choice {
-        INFO_STREAM => 20,
-        _ => session.up_len + prefix,
-    };
+    let end = stream_end(session);
     let before = (1_u32 << 16).saturating_sub(session.up_first * BLOCK);
-    match dice.below(3) {
-        0 if (1_024..end).contains(&before) => before + prefix - 1 - dice.below(1_024),
-        1 if end > 1 << 16 => (1 << 16) - 1 - dice.below(1_023),
+    match dice.below(6) {
+        0..=1 if (1_024..end).contains(&before) => before + prefix - 1 - dice.below(1_024),
+        2 if end > 1 << 16 => (1 << 16) - 1 - dice.below(1_023),
+        3 => end - 1 - dice.below(end.min(1_024)),
         _ => between(dice, 0, end),
+    }
+}
+
+fn stream_end(session: &Session) -> u32 {
+    match session.up_choice {
+        INFO_STREAM => 20,
+        _ => session
+            .up_len
+            .wrapping_add(8 * u32::from(session.up_prefix)),
     }
 }
 
@@ -133,6 +140,13 @@ const BYTES: [u8; 18] = [
 /// doesn't, the session is to be served.
 pub fn altered(dice: &mut Dice, mut session: Session) -> Session {
     let number = strange_number(dice, &session);
+    let end = session.b.wrapping_mul(BLOCK);
+    let roll = dice.below(12);
+    // As far as a number may go, or a little further.
+    let past = |most: u32| match roll {
+        0..4 => most.wrapping_add(roll),
+        _ => number,
+    };
     let byte = match dice.below(2) {
         0 => BYTES[dice.below(BYTES.len() as u32) as usize],
         _ => STATES[dice.below(6) as usize],
@@ -144,12 +158,12 @@ pub fn altered(dice: &mut Dice, mut session: Session) -> Session {
         3 => session.status = byte,
         4 => session.after = byte,
         5 => session.down_place = number,
-        6 => session.down_left = number,
+        6 => session.down_left = past(end.wrapping_sub(session.down_place)),
         7 => session.up_choice = byte,
         8 => session.up_prefix = byte,
         9 => session.up_first = number,
-        10 => session.up_len = number,
-        11 => session.up_place = number,
+        10 => session.up_len = past(end.wrapping_sub(session.up_first.wrapping_mul(BLOCK))),
+        11 => session.up_place = past(stream_end(&session)),
         12 => session.sums[dice.below(MOST_BLOCKS as u32) as usize] = number,
         _ => session.whole = number,
     }
@@ -183,6 +197,8 @@ fn strange_number(dice: &mut Dice, session: &Session) -> u32 {
         session.up_first.wrapping_add(1 << 8),
         start.wrapping_add(1 << 16),
         session.down_place.wrapping_add(1 << 16),
+        session.down_left.wrapping_add(1 << 16),
+        session.up_place.wrapping_add(1 << 16),
         session.up_len.wrapping_add(1 << 16),
     ];
     let border = borders[dice.below(borders.len() as u32) as usize];
