@@ -198,6 +198,7 @@ fn piece(dice: &mut Dice, left: u32) -> Vec<u8> {
         0 => 0,
         1 => (left + 1).min(1_024),
         2 if left >> 16 > 0 => 0,
+        3..=5 if left > 0 && left % 65_536 == 0 => 0,
         2..=6 => dice.below(most + 1),
         _ => most,
     };
@@ -235,10 +236,11 @@ fn whole_command(dice: &mut Dice, session: &Session, flash: &[u8]) -> Vec<u8> {
         return whole_range(dice, session);
     }
     let (block, count) = blocks(dice, session);
-    match dice.below(25 + 5 * u32::from(session.b > SMALL)) {
-        25..=27 => far(dice, session),
-        28 => up_to_the_first(dice, session, flash, command::CHECK),
-        29 => up_to_the_first(dice, session, flash, command::PROG),
+    match dice.below(25 + 10 * u32::from(session.b > SMALL)) {
+        25..=28 => far(dice, session),
+        29..=30 => up_to_the_first(dice, session, flash, command::CHECK),
+        31..=32 => up_to_the_first(dice, session, flash, command::PROG),
+        33..=34 => long_prog(dice, session, flash),
         0..=3 => header(command::ERASE, block, count).to_vec(),
         4..=11 => prog(dice, session, flash),
         12..=13 => ranged(dice, session, command::READ),
@@ -386,6 +388,21 @@ fn up_to_the_first(dice: &mut Dice, session: &Session, flash: &[u8], number: u8)
     let run = rest.iter().take_while(|byte| **byte == ERASED).count() as u32;
     let length = (run + dice.below(2)).clamp(1, rest.len() as u32);
     header(number, block as u16, length).to_vec()
+}
+
+/// A PROG with more data than its length would be if it were cut to 16 bits; where
+/// too little is erased for that, one up to the first byte that is not.
+fn long_prog(dice: &mut Dice, session: &Session, flash: &[u8]) -> Vec<u8> {
+    let block = session.a + dice.below(session.b - session.a) * dice.below(2);
+    let rest = &flash[(block * BLOCK) as usize..(session.b * BLOCK) as usize];
+    let run = rest.iter().take_while(|byte| **byte == ERASED).count() as u32;
+    if run >> 16 == 0 {
+        return up_to_the_first(dice, session, flash, command::PROG);
+    }
+    let length = ((1 + dice.below(run >> 16)) << 16) + dice.below(9);
+    let some = 10 + dice.below(30);
+    let header = header(command::PROG, block as u16, length.min(run));
+    [&header[..], &dice.bytes(some)].concat()
 }
 
 /// A range that ends near a byte which alone is not erased. Where there is no

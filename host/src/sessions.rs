@@ -69,7 +69,11 @@ fn choose_phase(dice: &mut Dice, session: &mut Session) {
     }
     if session.state == state::DOWN_IDLE || session.after == state::DOWN_IDLE {
         let end = session.b * BLOCK;
-        session.down_place = between(dice, session.a * BLOCK, end);
+        session.down_place = match dice.below(4) {
+            // The next piece may go on behind address 65,536.
+            0 if session.a < SMALL && SMALL < session.b => SMALL * BLOCK - 1 - dice.below(1_023),
+            _ => between(dice, session.a * BLOCK, end),
+        };
         session.down_left = between(dice, 0, end - session.down_place);
     }
 }
@@ -118,14 +122,17 @@ fn stream_end(session: &Session) -> u32 {
 fn between(dice: &mut Dice, least: u32, most: u32) -> u32 {
     let near = 1 + dice.below(9);
     let wide = (most >> 16) - (least >> 16);
-    match dice.below(7) {
+    match dice.below(8) {
         0 => least,
         1 => most,
         2 => most - near.min(most - least),
         3 => least + near.min(most - least),
-        4..=5 if wide > 0 => {
+        roll @ 4..=6 if wide > 0 => {
             let multiple = ((least >> 16) + 1 + dice.below(wide)) << 16;
-            (multiple - 1_024 + dice.below(2_048)).clamp(least, most)
+            match roll {
+                4 => multiple,
+                _ => (multiple - 1_024 + dice.below(2_048)).clamp(least, most),
+            }
         }
         _ => least + dice.below(most - least + 1),
     }

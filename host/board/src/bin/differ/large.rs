@@ -23,6 +23,14 @@ impl Rows {
         for (number, name) in [(command::PROG, "PROG"), (command::CHECK, "CHECK")] {
             self.far_bytes(number, name);
         }
+        self.command(
+            "PROG taken, with more data than its length, cut to 16 bits",
+            |seen, command| {
+                let data = command.extra() as u64;
+                let taken = seen.answered(answer::TAKEN) && command.is(command::PROG);
+                taken && length(command) >= WIDE && data > length(command) % WIDE
+            },
+        );
         self.far_pieces();
         self.far_uploads();
         self.info_of_large();
@@ -76,6 +84,10 @@ impl Rows {
         });
         self.piece("09, over 65,535 missing", |seen, _| {
             seen.faulted(status::NOT_DONE) && u64::from(seen.lent().down_left) >= WIDE
+        });
+        self.piece("09, a multiple of 65,536 missing", |seen, _| {
+            let left = u64::from(seen.lent().down_left);
+            seen.faulted(status::NOT_DONE) && left >= WIDE && left % WIDE == 0
         });
     }
 
