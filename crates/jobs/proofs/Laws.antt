@@ -45,24 +45,38 @@ place-within board f at n s p = record { inside = omega arith; addressed = omega
 split-still : {f g : List ℕ} {a e : ℕ} → Split f a e → length g ≡ length f → Split g a e
 split-still s l = record { ordered = s .ordered; counted = s .counted; inside = omega (arith, s .inside, l) }
 
+-- bytes that are put to their places, and blocks that are erased, are the single stores of their job
+module _ (f d : List ℕ) where
+  bytes-made :
+      (at : Addr) (skip : ℕ) → Within f (at .0) (length (drop skip d))
+      → spliced f (at .0) (drop skip d) ≡ carried f (storesFor (Bytes at skip) d)
+  unfolding storesFor
+  bytes-made at skip w = sym (stores-spliced f (at .0) (drop skip d) (w .inside))
+
+  wipe-made :
+      (first : Block) (count : ℕ) → Within f (startOf (first .0)) (startOf count)
+      → erased f (first .0) count ≡ carried f (storesFor (Wipe first count) d)
+  unfolding storesFor erased
+  wipe-made first count w =
+      sym
+      (stores-spliced f (startOf (first .0)) (blank (startOf count)) (omega (arith, length-blank (startOf count), w .inside)))
+
 -- the flash that a job leaves is that of its single stores
 pub stores-made :
     (job : Job) (o : Outcome) (board : Board) (f d : List ℕ) → Can job board f d
     → jobDone job o f d .flash ≡ carried f (storesFor job d)
-unfolding jobDone storesFor carried bytesDone wipeDone erased
+unfolding jobDone storesFor carried bytesDone wipeDone
 stores-made Nothing o board f d can = refl
 stores-made (Bytes at skip) o board f d can =
-    let w = place-within board f (at .0) (length (drop skip d)) (can .1) (can .2) in
-    sym (stores-spliced f (at .0) (drop skip d) (w .inside))
+    bytes-made f d at skip (place-within board f (at .0) (length (drop skip d)) (can .1) (can .2))
 stores-made (Wipe first count) o board f d can =
-    let w = place-within board f (startOf (first .0)) (startOf count) (can .0) (can .1) in
-    sym (stores-spliced f (startOf (first .0)) (blank (startOf count)) (omega (arith, length-blank (startOf count), w .inside)))
+    wipe-made f d first count (place-within board f (startOf (first .0)) (startOf count) (can .0) (can .1))
 
 -- a part from a place to the end
 pub to-the-end : (n : ℕ) (d : List ℕ) → take (length d - n) (drop n d) ≡ drop n d
 to-the-end n d = take-all (length d - n) (drop n d) (rw length-drop (omega arith))
 
--- what can be carried out lies in flash, and goes on to where flash has only other bytes
+-- what can be carried out lies in flash, and still can once flash has other bytes
 pub can-reaches : (job : Job) (board : Board) (f d : List ℕ) → Can job board f d → Reaches job f d
 can-reaches Nothing board f d can = tt
 can-reaches (Bytes at skip) board f d can = (can .0, place-within board f (at .0) (length (drop skip d)) (can .1) (can .2))
@@ -85,12 +99,11 @@ module _ (job : Job) (f d : List ℕ) (reaches : Reaches job f d) where
   pub bytes-stored :
       (at : Addr) (skip : ℕ) (g : List ℕ) → job ≡ Bytes at skip → g ≡ spliced f (at .0) (take (length d - skip) (drop skip d))
       → g ≡ carried f (storesFor job d)
-  unfolding storesFor
   bytes-stored at skip g told e =
       let r = subst (λ (j : Job). Reaches j f d) told reaches in
       e
       ∙ ap (spliced f (at .0)) (to-the-end skip d)
-      ∙ sym (stores-spliced f (at .0) (drop skip d) (r .1 .inside))
+      ∙ bytes-made f d at skip (r .1)
       ∙ sym (ap (λ (j : Job). carried f (storesFor j d)) told)
 
   pub reach-wipe : (first : Block) (count : ℕ) → job ≡ Wipe first count → Within f (startOf (first .0)) (startOf count)
@@ -98,12 +111,8 @@ module _ (job : Job) (f d : List ℕ) (reaches : Reaches job f d) where
 
   pub wipe-stored :
       (first : Block) (count : ℕ) (g : List ℕ) → job ≡ Wipe first count → g ≡ erased f (first .0) count → g ≡ carried f (storesFor job d)
-  unfolding storesFor erased
   wipe-stored first count g told e =
-      let r = reach-wipe first count told in
-      e
-      ∙ sym (stores-spliced f (startOf (first .0)) (blank (startOf count)) (omega (arith, length-blank (startOf count), r .inside)))
-      ∙ sym (ap (λ (j : Job). carried f (storesFor j d)) told)
+      e ∙ wipe-made f d first count (reach-wipe first count told) ∙ sym (ap (λ (j : Job). carried f (storesFor j d)) told)
 
 -- once it is told which job it is: where it lies in the application, and its sums
 module _ (job : Job) (board : Board) (kept : Sums) (f d : List ℕ) (can : Can job board f d) where

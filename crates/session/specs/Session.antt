@@ -97,7 +97,13 @@ freshTalk board = record { phase = phaseOf idle ok idle; down = noDownload; up =
 -- the fresh session
 unfoldable pub freshOf : Board → Sums → Session
 freshOf board sums =
-    record { board = board; phase = phaseOf idle ok idle; down = noDownload; up = wholeUpload board; sums = sums }
+    record {
+      board = board;
+      phase = freshTalk board .phase;
+      down = freshTalk board .down;
+      up = freshTalk board .up;
+      sums = sums;
+    }
 
 -- the session of zeros
 unfoldable pub zerosOf : Session
