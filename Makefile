@@ -12,7 +12,7 @@ CHECKED = -std=c11 -g -O1 -Wall -Wextra -DCHECKED -fsanitize=address,undefined -
 
 # The gate: the second loader's own tests, the stored outputs against it, the calls for C and Rust, then every proof, every edit that
 # must fail and every program, from nothing. The last line is the prover's own count.
-test: names host expected layout example differ suffixes bundles faults replay checked listed quoted stock
+test: names host expected layout example memory differ suffixes bundles faults replay checked listed quoted stock
 	rt ci
 
 # What a change needs while one is at it: the crates that changed since main was left (on main: since its last commit) with what they
@@ -84,11 +84,12 @@ bundles: build/libboard.a
 	$(FILES) bundles > build/bundles.said || { cat build/bundles.said; false; }
 	@cat build/bundles.said
 
-# The proved calls beside plain Rust and zlib, and the memory that they take. Figures are for docs/PERFORMANCE.md; nothing tests them.
+# The proved calls beside plain Rust and zlib, and the memory that they take. Figures are for docs/PERFORMANCE.md; times are tested nowhere.
 bench: build/libboard.a
 	@$(BOARD) bench
 	@$(MAKE) --no-print-directory memory
 
+# The bytes of a session, of the stack and of the code; fails where a call takes more stack than the header says.
 memory: build/libboard.a
 	@tools/memory
 

@@ -1,10 +1,11 @@
 /*
  * How much memory a board must have for the loader: the bytes of a session, and the bytes of stack that each call uses. Calls run on a
  * stack of their own that was painted before; what they wrote is no longer of that colour. A call that does nothing shows what this
- * program's own frames take, with arguments and return address, and that is taken off. Every request must be answered as it should, or
- * the program fails.
+ * program's own frames take, with arguments and return address, and that is taken off. The program fails where a request is not answered
+ * as it should be, or a call takes more than the header's MULLIRIM_STACK, with this program's own frames counted in.
  *
- * Only names of the header are used, so that it can be compiled with the header and library of another commit.
+ * Only names of the header are used, so that it can be compiled with the header and library of another commit; where that has no
+ * MULLIRIM_STACK, with -DMULLIRIM_STACK=... for it.
  */
 #define _DEFAULT_SOURCE
 #include <stdio.h>
@@ -13,8 +14,8 @@
 #include <ucontext.h>
 #include "mullirim.h"
 
-enum { FIRST = 16, BLOCKS = 64, AT = FIRST * MULLIRIM_BLOCK, STACK = 1 << 20, PROG_DATA = MULLIRIM_REPLY_ROOM - 8 };
-enum { IDLE = 2, SYNC = 3, DOWN_IDLE = 5, UP_IDLE = 9, ERROR = 10 };
+enum { FIRST = 16, BLOCKS = MULLIRIM_MOST_BLOCKS, AT = FIRST * MULLIRIM_BLOCK, STACK = 1 << 20, PROG_DATA = MULLIRIM_REPLY_ROOM - 8 };
+enum { IDLE = 2, SYNC = 3, MANIFEST = 6, UP_IDLE = 9, ERROR = 10, INFO_BYTES = 20 };
 
 /* What a call is lent, and what came of it. */
 static struct {
@@ -52,9 +53,9 @@ static struct mullirim_answer request_nothing(struct mullirim_session *s, uint8_
     return lent.answer;
 }
 
-static void fail(const char *what)
+static void fail(const char *what, const char *how)
 {
-    printf("stack: %s is not answered as it should be\n", what);
+    printf("stack: %s %s\n", what, how);
     exit(1);
 }
 
@@ -135,26 +136,47 @@ static void dnload(uint8_t number, uint32_t length, size_t data_len)
     lent.data_len = data_len;
 }
 
-static void small_start(void) { board(FIRST, BLOCKS, 0x5A); }
-static void large_start(void) { board(1, MULLIRIM_MOST_BLOCKS, 0x5A); }
-static void getstate(void) { board(FIRST, BLOCKS, 0x5A), setup(0xA1, 5, 1); }
-static void getstatus(void) { board(FIRST, BLOCKS, 0x5A), setup(0xA1, 3, 6); }
-static void upload(void) { board(FIRST, BLOCKS, 0x5A), setup(0xA1, 2, MULLIRIM_REPLY_ROOM); }
-static void prog(void) { board(FIRST, BLOCKS, 0xFF), dnload(1, 2 * MULLIRIM_BLOCK, MULLIRIM_REPLY_ROOM); }
-static void erase(void) { board(FIRST, BLOCKS, 0x5A), dnload(4, 1, 8); }
-static void check(void) { board(FIRST, BLOCKS, 0xFF), dnload(3, (BLOCKS - FIRST) * MULLIRIM_BLOCK, 8); }
-static void stalled(void) { board(FIRST, BLOCKS, 0x5A), setup(0x21, 4, 0); }
-static void unfit(void) { board(FIRST, BLOCKS, 0x5A), setup(0xA1, 5, 1), lent.session.phase.status = 1; }
+/* On an application that is all erased, and on one that is not. */
+static void erased(uint8_t number, uint32_t length, size_t data_len) { board(FIRST, BLOCKS, 0xFF), dnload(number, length, data_len); }
+static void written(uint8_t number, uint32_t length) { board(FIRST, BLOCKS, 0x5A), dnload(number, length, 8); }
+static void asked(uint8_t type, uint8_t number, size_t length) { board(FIRST, BLOCKS, 0x5A), setup(type, number, length); }
 
-/* The data behind a PROG: a whole piece, in state 5. */
-static void piece(void)
+/* The request that is ready, and the poll behind it. */
+static void done(void)
 {
-    prog();
     call_request();
     setup(0xA1, 3, 6), lent.data_len = 0;
     call_request();
-    setup(0x21, 1, MULLIRIM_REPLY_ROOM), lent.data_len = MULLIRIM_REPLY_ROOM;
 }
+
+/* A download of so many bytes that has had its first data, in state 5. */
+static void begun(uint32_t length) { erased(1, length, MULLIRIM_REPLY_ROOM), done(); }
+
+static void small_start(void) { board(1, 2, 0x5A); }
+static void large_start(void) { board(1, BLOCKS, 0x5A); }
+static void getstate(void) { asked(0xA1, 5, 1); }
+static void getstatus(void) { asked(0xA1, 3, 6); }
+static void query(void) { asked(0xA1, 0x42, 4), lent.setup[2] = 0x23; }
+static void abort_request(void) { asked(0x21, 6, 0); }
+static void stalled(void) { asked(0x21, 4, 0); }
+static void clrstatus(void) { stalled(), call_request(); }
+static void upload(void) { asked(0xA1, 2, MULLIRIM_REPLY_ROOM); }
+static void prog(void) { erased(1, 2 * MULLIRIM_BLOCK, MULLIRIM_REPLY_ROOM); }
+static void prog_alone(void) { erased(1, 2 * MULLIRIM_BLOCK, 8); }
+static void check(void) { erased(3, (BLOCKS - FIRST) * MULLIRIM_BLOCK, 8); }
+static void read(void) { written(2, MULLIRIM_BLOCK); }
+static void erase(void) { written(4, 1); }
+static void erase_all(void) { written(4, BLOCKS - FIRST); }
+static void info(void) { written(5, 0); }
+static void bin(void) { written(6, 0); }
+static void reset(void) { written(7, 0); }
+static void info_bytes(void) { info(), done(), setup(0xA1, 2, MULLIRIM_REPLY_ROOM); }
+static void piece(void) { begun(2 * MULLIRIM_BLOCK), setup(0x21, 1, MULLIRIM_REPLY_ROOM), lent.data_len = MULLIRIM_REPLY_ROOM; }
+static void closed(void) { begun(PROG_DATA), setup(0x21, 1, 0); }
+static void early(void) { begun(2 * MULLIRIM_BLOCK), setup(0x21, 1, 0); }
+static void unknown(void) { written(8, 0); }
+static void unerased(void) { written(1, MULLIRIM_BLOCK); }
+static void unfit(void) { getstate(), lent.session.phase.status = 1; }
 
 /* What a request must come to: code, count, the reply's first byte, the state, and the byte at a place of the flash. */
 struct awaited {
@@ -171,18 +193,42 @@ static const struct {
 } requests[] = {
     {"GETSTATE", getstate, {MULLIRIM_TAKEN, 1, IDLE, IDLE, AT, 0x5A}},
     {"GETSTATUS", getstatus, {MULLIRIM_TAKEN, 6, 0, IDLE, AT, 0x5A}},
+    {"query", query, {MULLIRIM_TAKEN, 4, 0x4D, IDLE, AT, 0x5A}},
+    {"ABORT", abort_request, {MULLIRIM_TAKEN, 0, 0, IDLE, AT, 0x5A}},
+    {"CLRSTATUS", clrstatus, {MULLIRIM_TAKEN, 0, 0, IDLE, AT, 0x5A}},
     {"UPLOAD of 1,024 bytes", upload, {MULLIRIM_TAKEN, MULLIRIM_REPLY_ROOM, 1, UP_IDLE, AT, 0x5A}},
+    {"UPLOAD of the info bytes", info_bytes, {MULLIRIM_TAKEN, INFO_BYTES, 0, UP_IDLE, AT, 0x5A}},
     {"PROG with 1,016 bytes of data", prog, {MULLIRIM_TAKEN, 0, 0, SYNC, AT + PROG_DATA - 1, 0x31}},
-    {"piece of 1,024 bytes", piece, {MULLIRIM_TAKEN, 0, 0, SYNC, AT + PROG_DATA + MULLIRIM_REPLY_ROOM - 1, 0x31}},
+    {"PROG alone", prog_alone, {MULLIRIM_TAKEN, 0, 0, SYNC, AT, 0xFF}},
+    {"READ", read, {MULLIRIM_TAKEN, 0, 0, SYNC, AT, 0x5A}},
+    {"CHECK of the whole application", check, {MULLIRIM_TAKEN, 0, 0, SYNC, AT, 0xFF}},
     {"ERASE of one block", erase, {MULLIRIM_TAKEN, 0, 0, SYNC, AT + MULLIRIM_BLOCK - 1, 0xFF}},
-    {"CHECK of 49,152 bytes", check, {MULLIRIM_TAKEN, 0, 0, SYNC, AT, 0xFF}},
+    {"ERASE of the whole application", erase_all, {MULLIRIM_TAKEN, 0, 0, SYNC, BLOCKS * MULLIRIM_BLOCK - 1, 0xFF}},
+    {"INFO", info, {MULLIRIM_TAKEN, 0, 0, SYNC, AT, 0x5A}},
+    {"BIN", bin, {MULLIRIM_TAKEN, 0, 0, SYNC, AT, 0x5A}},
+    {"RESET", reset, {MULLIRIM_RESET_ASKED, 0, 0, IDLE, AT, 0x5A}},
+    {"piece of 1,024 bytes", piece, {MULLIRIM_TAKEN, 0, 0, SYNC, AT + PROG_DATA + MULLIRIM_REPLY_ROOM - 1, 0x31}},
+    {"close", closed, {MULLIRIM_TAKEN, 0, 0, MANIFEST, AT, 0x31}},
+    {"faulted: command 8", unknown, {MULLIRIM_FAULTED, 0, 0, ERROR, AT, 0x5A}},
+    {"faulted: PROG, not erased", unerased, {MULLIRIM_FAULTED, 0, 0, ERROR, AT, 0x5A}},
+    {"faulted: closed too early", early, {MULLIRIM_FAULTED, 0, 0, ERROR, AT, 0x31}},
     {"stalled: CLRSTATUS in state 2", stalled, {MULLIRIM_STALLED, 0, 0, ERROR, AT, 0x5A}},
     {"unfit: GETSTATE, session broken", unfit, {MULLIRIM_UNFIT, 0, 0, IDLE, AT, 0x5A}},
 };
 
+static const char WRONG[] = "is not answered as it should be", DEEP[] = "takes more stack than MULLIRIM_STACK";
+
 static void print(const char *name, size_t bytes)
 {
     printf("%-38s %7zu\n", name, bytes);
+}
+
+/* `down` is all that the call took with the frames around it, `own` is what those take. */
+static void print_call(const char *name, size_t down, size_t own)
+{
+    print(name, down - own);
+    if (down > MULLIRIM_STACK)
+        fail(name, DEEP);
 }
 
 /* The sums that a start must find are those of the same bytes in any block. */
@@ -194,9 +240,9 @@ static void print_start(const char *name, void (*ready)(void), size_t own)
     uint32_t last = s->board.blocks - 1;
 
     if (lent.started.code != MULLIRIM_TAKEN || s->sums.block[lent.first] == 0 || s->sums.block[last] != s->sums.block[lent.first])
-        fail(name);
+        fail(name, WRONG);
     snprintf(text, sizeof text, "%s, A = %u, B = %u", name, (unsigned)lent.first, (unsigned)last + 1);
-    print(text, down - own);
+    print_call(text, down, own);
 }
 
 static void print_request(size_t i, size_t own)
@@ -205,10 +251,10 @@ static void print_request(size_t i, size_t own)
     size_t down = deepest(call_request, requests[i].ready);
 
     if (lent.answer.code != w->code || lent.answer.count != w->count || lent.reply[0] != w->first)
-        fail(requests[i].name);
+        fail(requests[i].name, WRONG);
     if (lent.session.phase.state != w->state || lent.flash[w->place] != w->byte)
-        fail(requests[i].name);
-    print(requests[i].name, down - own);
+        fail(requests[i].name, WRONG);
+    print_call(requests[i].name, down, own);
 }
 
 int main(void)

@@ -54,17 +54,16 @@ pub fn number(answer: Answer) -> u32
 pub fn moved(s: Session, state: State, status: Status, after: State, down: Download) -> Talk
     ensures { λ r. ⌜ withTalk s r ≡ movedTo s (phaseOf (state .0) (status .0) (after .0)) down ⌝ }
 {
-    let mut up = s.up;
-    up.place = 0;
-    Talk {
-        phase: Phase {
-            state: state,
-            status: status,
-            after: after,
-        },
-        down: down,
-        up: up,
-    }
+    let phase = Phase {
+        state: state,
+        status: status,
+        after: after,
+    };
+    let mut t = session::talk_of(s);
+    t.phase = phase;
+    t.down = down;
+    t.up.place = 0;
+    t
 }
 
 fn none() -> Download

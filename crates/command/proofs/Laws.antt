@@ -1,5 +1,5 @@
 -- What a ready session's numbers say of its flash: where the application lies, and that ranges in it lie in flash. Assumes nothing.
-use Prim.Native.Nat.{ℕ, _+_, _-_, _≤_, _<_}
+use Prim.Native.Nat.{ℕ, _-_, _≤_}
 use mathlib.Core.Bool.{Bool, true, false, cond, _&&_}
 use mathlib.Core.List.{List}
 use mathlib.Core.Logic.{inl, ⊎-elim}

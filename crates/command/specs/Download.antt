@@ -1,9 +1,9 @@
 -- DNLOAD: the eight-byte commands in state idle, and pieces of data in state download idle.
-use Prim.Native.Nat.{ℕ, _+_, _-_, _*_}
+use Prim.Native.Nat.{ℕ, _+_, _-_}
 use mathlib.Core.Bool.{Bool, true, false, cond, _&&_, _||_}
 use mathlib.Core.List.{List}
 use lib.Dec.{eqb, leb}
-use lib.ListN.{length, getD, drop}
+use lib.ListN.{length, getD}
 use Rattle.flash.specs.Flash.{startOf, searched}
 use Rattle.flash.specs.declared.Found.{Found}
 use Rattle.session.specs.Codes.{idle, downloadIdle, manifestSync, ok, checkErased, address, notDone, vendor}

@@ -1,6 +1,6 @@
 -- A job's single stores leave the flash that it is said to leave, what can be carried out lies in flash, and stores and sums together are
 -- what a job is said to leave. Assumes nothing.
-use Prim.Native.Nat.{ℕ, _+_, _-_, _≤_}
+use Prim.Native.Nat.{ℕ, _-_, _≤_}
 use mathlib.Core.List.{List}
 use mathlib.Core.Path.{_≡_, refl, sym, ap, ap₂, subst, subst⁻¹, _∙_}
 use native.Mathlib.Omega.{arith}
@@ -8,7 +8,7 @@ use lib.ListN.{length, take, drop, length-drop}
 use lib.Seq.{take-all}
 use Rattle.flash.specs.declared.Addr.{Addr}
 use Rattle.flash.specs.declared.Block.{Block}
-use Rattle.flash.specs.Flash.{startOf, Within, blank, spliced, erased, Store, carried, stores}
+use Rattle.flash.specs.Flash.{startOf, Within, blank, spliced, erased, carried}
 use Rattle.flash.proofs.Laws.{length-blank, stores-spliced}
 use Rattle.sums.specs.Sum.{Split, refreshed}
 use Rattle.sums.specs.declared.Sums.{Sums}
@@ -22,7 +22,7 @@ use Rattle.jobs.specs.declared.Decision.{Decision}
 use Rattle.jobs.specs.declared.Job.{Job}
 use Rattle.jobs.specs.declared.Job.the-variants.{Nothing, Bytes, Wipe}
 use Rattle.jobs.specs.Job.{planOf, decisionOf, planned}
-use Rattle.jobs.specs.Job.{Place, Can, Reaches, storesFor, sumsAfter, sumsWiped, sumsDone, summed, bytesDone, wipeDone, jobDone}
+use Rattle.jobs.specs.Job.{Place, Can, Reaches, storesFor, sumsAfter, sumsWiped, flashDone, sumsDone, summed, jobDone}
 
 -- what leaves flash alone, at a session
 pub only-at :
@@ -45,32 +45,15 @@ place-within board f at n s p = record { inside = omega arith; addressed = omega
 split-still : {f g : List ℕ} {a e : ℕ} → Split f a e → length g ≡ length f → Split g a e
 split-still s l = record { ordered = s .ordered; counted = s .counted; inside = omega (arith, s .inside, l) }
 
--- bytes that are put to their places, and blocks that are erased, are the single stores of their job
-module _ (f d : List ℕ) where
-  bytes-made :
-      (at : Addr) (skip : ℕ) → Within f (at .0) (length (drop skip d))
-      → spliced f (at .0) (drop skip d) ≡ carried f (storesFor (Bytes at skip) d)
-  unfolding storesFor
-  bytes-made at skip w = sym (stores-spliced f (at .0) (drop skip d) (w .inside))
-
-  wipe-made :
-      (first : Block) (count : ℕ) → Within f (startOf (first .0)) (startOf count)
-      → erased f (first .0) count ≡ carried f (storesFor (Wipe first count) d)
-  unfolding storesFor erased
-  wipe-made first count w =
-      sym
-      (stores-spliced f (startOf (first .0)) (blank (startOf count)) (omega (arith, length-blank (startOf count), w .inside)))
-
 -- the flash that a job leaves is that of its single stores
-pub stores-made :
-    (job : Job) (o : Outcome) (board : Board) (f d : List ℕ) → Can job board f d
-    → jobDone job o f d .flash ≡ carried f (storesFor job d)
-unfolding jobDone storesFor carried bytesDone wipeDone
-stores-made Nothing o board f d can = refl
-stores-made (Bytes at skip) o board f d can =
-    bytes-made f d at skip (place-within board f (at .0) (length (drop skip d)) (can .1) (can .2))
-stores-made (Wipe first count) o board f d can =
-    wipe-made f d first count (place-within board f (startOf (first .0)) (startOf count) (can .0) (can .1))
+pub stores-made : (job : Job) (f d : List ℕ) → Reaches job f d → flashDone job f d ≡ carried f (storesFor job d)
+unfolding storesFor carried erased
+stores-made Nothing f d reaches = refl
+stores-made (Bytes at skip) f d reaches = sym (stores-spliced f (at .0) (drop skip d) (reaches .1 .inside))
+stores-made (Wipe first count) f d reaches =
+    sym
+    (stores-spliced f (startOf (first .0)) (blank (startOf count))
+    (omega (arith, length-blank (startOf count), reaches .inside)))
 
 -- a part from a place to the end
 pub to-the-end : (n : ℕ) (d : List ℕ) → take (length d - n) (drop n d) ≡ drop n d
@@ -89,6 +72,9 @@ can-still (Wipe first count) board f g d e can = (split-still (can .0) e, can .1
 
 -- once it is told which job it is: its bytes lie in flash, and what they leave is what its stores leave
 module _ (job : Job) (f d : List ℕ) (reaches : Reaches job f d) where
+  made : (j : Job) → job ≡ j → flashDone j f d ≡ carried f (storesFor job d)
+  made j told = sym (ap (λ (x : Job). flashDone x f d) told) ∙ stores-made job f d reaches
+
   pub reach-bytes :
       (at : Addr) (skip : ℕ) → job ≡ Bytes at skip
       → (skip ≤ length d) × Within f (at .0) (length (take (length d - skip) (drop skip d)))
@@ -99,23 +85,17 @@ module _ (job : Job) (f d : List ℕ) (reaches : Reaches job f d) where
   pub bytes-stored :
       (at : Addr) (skip : ℕ) (g : List ℕ) → job ≡ Bytes at skip → g ≡ spliced f (at .0) (take (length d - skip) (drop skip d))
       → g ≡ carried f (storesFor job d)
-  bytes-stored at skip g told e =
-      let r = subst (λ (j : Job). Reaches j f d) told reaches in
-      e
-      ∙ ap (spliced f (at .0)) (to-the-end skip d)
-      ∙ bytes-made f d at skip (r .1)
-      ∙ sym (ap (λ (j : Job). carried f (storesFor j d)) told)
+  bytes-stored at skip g told e = e ∙ ap (spliced f (at .0)) (to-the-end skip d) ∙ made (Bytes at skip) told
 
   pub reach-wipe : (first : Block) (count : ℕ) → job ≡ Wipe first count → Within f (startOf (first .0)) (startOf count)
   reach-wipe first count told = subst (λ (j : Job). Reaches j f d) told reaches
 
   pub wipe-stored :
       (first : Block) (count : ℕ) (g : List ℕ) → job ≡ Wipe first count → g ≡ erased f (first .0) count → g ≡ carried f (storesFor job d)
-  wipe-stored first count g told e =
-      e ∙ wipe-made f d first count (reach-wipe first count told) ∙ sym (ap (λ (j : Job). carried f (storesFor j d)) told)
+  wipe-stored first count g told e = e ∙ made (Wipe first count) told
 
--- once it is told which job it is: where it lies in the application, and its sums
-module _ (job : Job) (board : Board) (kept : Sums) (f d : List ℕ) (can : Can job board f d) where
+-- once it is told which job it is: where it lies in the application
+module _ (job : Job) (board : Board) (f d : List ℕ) (can : Can job board f d) where
   pub can-bytes :
       (at : Addr) (skip : ℕ) → job ≡ Bytes at skip
       → (skip ≤ length d) × Split f (board .a .0) (appEnd board) × Place board (at .0) (length d - skip)
@@ -123,34 +103,25 @@ module _ (job : Job) (board : Board) (kept : Sums) (f d : List ℕ) (can : Can j
       let c = subst (λ (j : Job). Can j board f d) told can in
       (c .0, c .1, subst (Place board (at .0)) (length-drop skip d) (c .2))
 
-  pub bytes-summed :
-      (at : Addr) (skip : ℕ) → job ≡ Bytes at skip → sumsAfter board kept f (at .0) (length d - skip) ≡ sumsDone job board kept f d
-  unfolding sumsDone
-  bytes-summed at skip told =
-      ap (sumsAfter board kept f (at .0)) (sym (length-drop skip d)) ∙ sym (ap (λ (j : Job). sumsDone j board kept f d) told)
-
   pub can-wipe :
       (first : Block) (count : ℕ) → job ≡ Wipe first count
       → Split f (board .a .0) (appEnd board) × Place board (startOf (first .0)) (startOf count)
   can-wipe first count told = subst (λ (j : Job). Can j board f d) told can
 
-  pub wipe-summed :
-      (first : Block) (count : ℕ) → job ≡ Wipe first count → sumsWiped board kept f (first .0) count ≡ sumsDone job board kept f d
-  unfolding sumsDone
-  wipe-summed first count told = sym (ap (λ (j : Job). sumsDone j board kept f d) told)
+-- and its sums
+module _ (job : Job) (board : Board) (kept : Sums) (f d : List ℕ) where
+  pub sums-told : (j : Job) → job ≡ j → sumsDone j board kept f d ≡ sumsDone job board kept f d
+  sums-told j told = sym (ap (λ (x : Job). sumsDone x board kept f d) told)
+
+  pub bytes-summed :
+      (at : Addr) (skip : ℕ) → job ≡ Bytes at skip → sumsAfter board kept f (at .0) (length d - skip) ≡ sumsDone job board kept f d
+  bytes-summed at skip told = ap (sumsAfter board kept f (at .0)) (sym (length-drop skip d)) ∙ sums-told (Bytes at skip) told
 
 -- stores and sums together are what a job is said to leave
 pub job-left :
     (job : Job) (o : Outcome) (f d g : List ℕ) → Can job (o .session .board) f d → g ≡ carried f (storesFor job d)
     → done (summed o (sumsDone job (o .session .board) (o .session .sums) g d)) g ≡ jobDone job o f d
-unfolding jobDone bytesDone wipeDone sumsDone storesFor carried
-job-left Nothing o f d g can e = ap (done o) e
-job-left (Bytes at skip) o f d g can e =
-    let s = o .session in
-    let n = length (drop skip d) in
-    ap (λ (x : List ℕ). done (summed o (sumsAfter (s .board) (s .sums) x (at .0) n)) x)
-    (e ∙ sym (stores-made (Bytes at skip) o (s .board) f d can))
-job-left (Wipe first count) o f d g can e =
-    let s = o .session in
-    ap (λ (x : List ℕ). done (summed o (sumsWiped (s .board) (s .sums) x (first .0) count)) x)
-    (e ∙ sym (stores-made (Wipe first count) o (s .board) f d can))
+unfolding jobDone
+job-left job o f d g can e =
+    ap (λ (x : List ℕ). done (summed o (sumsDone job (o .session .board) (o .session .sums) x d)) x)
+    (e ∙ sym (stores-made job f d (can-reaches job (o .session .board) f d can)))

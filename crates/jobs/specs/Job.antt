@@ -4,8 +4,6 @@ use mathlib.Core.Bool.{cond}
 use mathlib.Core.List.{List, []}
 use lib.Dec.{eqb}
 use lib.ListN.{length, drop}
-use Rattle.flash.specs.declared.Addr.{Addr}
-use Rattle.flash.specs.declared.Block.{Block}
 use Rattle.flash.specs.Flash.{startOf, Within, holderOf, nextStart, spliced, blank, erased, Store, stores}
 use Rattle.sums.specs.Sum.{refreshed, Split}
 use Rattle.sums.specs.declared.Sums.{Sums}
@@ -75,8 +73,14 @@ sumsAfter board kept flash at n =
 unfoldable pub sumsWiped : Board → Sums → List ℕ → ℕ → ℕ → Sums
 sumsWiped board kept flash first count = refreshed kept flash (board .a .0) (appEnd board) first (first + count)
 
--- the sums once the stores of a job stand in flash
-unfoldable pub sumsDone : Job → Board → Sums → List ℕ → List ℕ → Sums
+-- the flash once a job is done
+abbrev pub flashDone : Job → List ℕ → List ℕ → List ℕ
+flashDone Nothing flash d = flash
+flashDone (Bytes at skip) flash d = spliced flash (at .0) (drop skip d)
+flashDone (Wipe first count) flash d = erased flash (first .0) count
+
+-- the sums once a job is done, by the flash that it left
+abbrev pub sumsDone : Job → Board → Sums → List ℕ → List ℕ → Sums
 sumsDone Nothing board kept flash d = kept
 sumsDone (Bytes at skip) board kept flash d = sumsAfter board kept flash (at .0) (length (drop skip d))
 sumsDone (Wipe first count) board kept flash d = sumsWiped board kept flash (first .0) count
@@ -85,19 +89,8 @@ sumsDone (Wipe first count) board kept flash d = sumsWiped board kept flash (fir
 abbrev pub summed : Outcome → Sums → Outcome
 summed o sums = outcome (o .answer) (o .count) (withSums (o .session) sums)
 
--- an outcome once bytes stand in flash, and once blocks are erased
-unfoldable pub bytesDone : Outcome → List ℕ → ℕ → List ℕ → Done
-bytesDone o flash at bytes =
-    done (summed o (sumsAfter (o .session .board) (o .session .sums) (spliced flash at bytes) at (length bytes)))
-    (spliced flash at bytes)
-
-unfoldable pub wipeDone : Outcome → List ℕ → ℕ → ℕ → Done
-wipeDone o flash first count =
-    done (summed o (sumsWiped (o .session .board) (o .session .sums) (erased flash first count) first count))
-    (erased flash first count)
-
--- an outcome once its job is carried out: the flash with the job's stores, and the sums of the blocks that they touch anew
+-- an outcome once its job is done: the flash with the job's stores, and the sums of the blocks that they touch anew
 unfoldable pub jobDone : Job → Outcome → List ℕ → List ℕ → Done
-jobDone Nothing o flash d = done o flash
-jobDone (Bytes at skip) o flash d = bytesDone o flash (at .0) (drop skip d)
-jobDone (Wipe first count) o flash d = wipeDone o flash (first .0) count
+jobDone job o flash d =
+    let left = flashDone job flash d in
+    done (summed o (sumsDone job (o .session .board) (o .session .sums) left d)) left

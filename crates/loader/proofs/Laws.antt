@@ -26,11 +26,11 @@ use Rattle.stream.proofs.Laws.{next-length}
 use Rattle.answers.specs.declared.Answer.{Answer}
 use Rattle.answers.specs.declared.Heard.{Heard}
 use Rattle.answers.specs.declared.Outcome.{Outcome}
-use Rattle.answers.specs.Answers.{Done, Replied, outcome, done, replied, leaves, heard, heardAt}
+use Rattle.answers.specs.Answers.{Done, Replied, outcome, replied, leaves, heard, heardAt}
 use Rattle.jobs.specs.declared.Decision.{Decision}
 use Rattle.jobs.specs.declared.Job.{Job}
-use Rattle.jobs.specs.Job.{Plan, planOf, decisionOf, planned, Can, storesFor, sumsDone, summed, jobDone}
-use Rattle.jobs.proofs.Laws.{only-at, stores-made, job-left}
+use Rattle.jobs.specs.Job.{Plan, decisionOf, planned, Can, storesFor, sumsDone, summed, jobDone}
+use Rattle.jobs.proofs.Laws.{only-at, stores-made, can-reaches, job-left}
 use Rattle.command.specs.Ready.{Ready, Loading}
 use Rattle.command.specs.Download.{dnloadOf}
 use Rattle.command.proofs.Laws.{pick, dnload-can}
@@ -212,7 +212,7 @@ module _ (s : Session) (f setup d reply : List ℕ) where
 
   -- the flash that a call leaves is that of its single stores, one after another
   pub step-stores : stepOf s f setup d reply .flash ≡ carried f (storesOf s f setup d reply)
-  unfolding stepOf settled storesOf
+  unfolding stepOf settled jobDone storesOf
   step-stores =
       let p = decidedOf s f setup d reply .plan in
-      stores-made (p .job) (p .outcome) (p .outcome .session .board) f d decided-can
+      stores-made (p .job) f d (can-reaches (p .job) (p .outcome .session .board) f d decided-can)

@@ -29,7 +29,7 @@ fn answer(talk: Talk, bytes: &[u8], reply: &mut [u8]) -> Heard
 }
 
 // The same, where the talk stays as it is.
-fn told(s: Session, bytes: &[u8], reply: &mut [u8]) -> Heard
+fn stays(s: Session, bytes: &[u8], reply: &mut [u8]) -> Heard
     requires { ⌜ (length (now bytes) ≤ length (now reply)) × (length (now bytes) ≤ 1024) ⌝ }
     ensures { λ r. ⌜ replied (heardAt s r) (now (reply .exit)) ≡ answered s (now (bytes .entry)) (now (reply .entry)) ⌝ }
 {
@@ -51,17 +51,11 @@ fn entered(phase: Phase) -> u8
 fn poll(s: Session) -> Talk
     ensures { λ r. ⌜ withTalk s r ≡ polled s ⌝ }
 {
-    let mut phase = s.phase;
+    let mut t = session::talk_of(s);
     let state = entered(s.phase);
-    phase.state.0 = state;
-    phase.after.0 = State::IDLE;
-    let down = s.down;
-    let up = s.up;
-    Talk {
-        phase: phase,
-        down: down,
-        up: up,
-    }
+    t.phase.state.0 = state;
+    t.phase.after.0 = State::IDLE;
+    t
 }
 
 // How long the host is to wait before it polls again.
@@ -92,7 +86,7 @@ pub fn getstate(s: Session, reply: &mut [u8]) -> Heard
     ensures { λ r. ⌜ replied (heardAt s r) (now (reply .exit)) ≡ getstateOf s (now (reply .entry)) ⌝ }
 {
     let bytes = [s.phase.state.0];
-    told(s, &bytes, reply)
+    stays(s, &bytes, reply)
 }
 
 pub fn query(s: Session, reply: &mut [u8]) -> Heard
@@ -100,5 +94,5 @@ pub fn query(s: Session, reply: &mut [u8]) -> Heard
     ensures { λ r. ⌜ replied (heardAt s r) (now (reply .exit)) ≡ queryOf s (now (reply .entry)) ⌝ }
 {
     let bytes = [0x4D, 0x4C, 0x01, 0x20];
-    told(s, &bytes, reply)
+    stays(s, &bytes, reply)
 }

@@ -1,12 +1,8 @@
 // UPLOAD: how an upload goes through the chosen stream.
 use answers::Answer;
 use answers::Heard;
-use flash::Addr;
-use session::Download;
-use session::Phase;
 use session::Session;
 use session::State;
-use session::Status;
 use session::Talk;
 ghost use Prim.Native.Nat.{_+_, _≤_, _<_, _^_};
 ghost use mathlib.Core.Path.{_≡_};
@@ -36,20 +32,10 @@ fn ends(asked: u32, given: u32) -> bool
 fn uploading(s: Session, place: u32) -> Talk
     ensures { λ r. ⌜ withTalk s r ≡ uploadingAt s place ⌝ }
 {
-    let mut up = s.up;
-    up.place = place;
-    Talk {
-        phase: Phase {
-            state: State(State::UPLOAD_IDLE),
-            status: Status(Status::OK),
-            after: State(State::IDLE),
-        },
-        down: Download {
-            place: Addr(0),
-            left: 0,
-        },
-        up: up,
-    }
+    let mut t = answers::idle(s);
+    t.phase.state.0 = State::UPLOAD_IDLE;
+    t.up.place = place;
+    t
 }
 
 // The talk after `given` bytes from place `from` on were answered.

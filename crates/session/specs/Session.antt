@@ -4,8 +4,6 @@ use Prim.Native.Nat.{ℕ, _+_, _-_, _*_}
 use mathlib.Core.Bool.{Bool, cond, _&&_}
 use lib.Dec.{eqb, leb, ltb}
 use lib.ListN.{replicate}
-use Rattle.flash.specs.declared.Block.{Block}
-use Rattle.flash.specs.declared.Addr.{Addr}
 use Rattle.flash.specs.Flash.{blockSize}
 use Rattle.sums.specs.declared.Sums.{Sums}
 use Rattle.sums.specs.Sum.{mostBlocks}

@@ -1,6 +1,6 @@
 -- The kept sums: one to a block number, which is zero where the block is not of the application, and one of the application as a
 -- whole, from its lowest address up. The application is blocks a to e − 1.
-use Prim.Native.Nat.{ℕ, zero, suc, _+_, _-_, _^_, _≤_, _<_}
+use Prim.Native.Nat.{ℕ, zero, suc, _+_, _-_, _≤_, _<_}
 use mathlib.Core.Bool.{Bool, cond, _&&_}
 use mathlib.Core.List.{List, [], _∷_}
 use mathlib.Core.Logic.{_⊎_}

@@ -1,12 +1,10 @@
 // The kept sums of a flash: one for each application block and one over the whole application, made fresh and refreshed
 // after blocks changed. The application is given by its first block and the block after its last.
 use flash::Block;
-ghost use Prim.Native.Nat.{_≤_, _<_};
+ghost use Prim.Native.Nat.{_≤_};
 ghost use mathlib.Core.Path.{_≡_};
-ghost use lib.ListN.{length};
 ghost use Rattle.crc.specs.Crc.{crcOf};
-ghost use Rattle.flash.specs.Flash.{startOf};
-ghost use Rattle.sums.specs.Sum.{mostBlocks, blocksOf, freshSums, refreshed, Split};
+ghost use Rattle.sums.specs.Sum.{blocksOf, freshSums, refreshed, Split};
 
 // The most blocks that a flash may have: the one place in code that says so.
 pub const MOST: usize = 256;

@@ -87,6 +87,7 @@ mod tests {
         for first in [1, most - 1] {
             let started = start(&flash, first, most, 7, 9);
             let (_, awaited) = second::start(&flash, first, most, 7, 9);
+            assert_eq!(started.code, 0);
             assert_eq!(second::Session::from(&started.session), awaited);
         }
     }

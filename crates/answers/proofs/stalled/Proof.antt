@@ -1,9 +1,4 @@
 -- By whether the state is error. Assumes nothing.
-use mathlib.Core.Path.{ap}
-use Rattle.session.specs.Session.{withTalk}
-use Rattle.session.specs.declared.Talk.{Talk}
-use Rattle.answers.specs.Answers.{outcome}
-use Rattle.answers.specs.declared.Answer.{Answer}
 use Rattle.answers.specs.Moves.{stallOf}
 use borrow.Author.Tests.{eq-eqb, ne-eqb}
 use borrow.Author.Needs.{needs}

@@ -1,6 +1,5 @@
 -- A legal erase and a legal program are taken, and the flash is the named one to the byte. Assumes nothing.
 use Prim.Native.Nat.{ℕ, _+_, _-_, _≤_}
-use mathlib.Core.Bool.{true}
 use mathlib.Core.List.{List, []}
 use mathlib.Core.Logic.{inl, inr}
 use mathlib.Core.Path.{_≡_, refl, ap, _∙_, sym}
@@ -13,14 +12,13 @@ use Rattle.sums.specs.Sum.{refreshed}
 use Rattle.sums.specs.declared.Sums.{Sums}
 use Rattle.session.specs.Codes.{idle, downloadIdle}
 use Rattle.session.specs.Session.{appEnd, phaseOf, downOf, noDownload, withSums}
-use Rattle.session.specs.Rules.{running}
 use Rattle.session.specs.declared.Session.{Session}
 use Rattle.session.proofs.Laws.{end-in-flash}
 use Rattle.request.specs.declared.Request.{Request}
 use Rattle.answers.specs.declared.Answer.{Answer}
 use Rattle.answers.specs.Answers.{leaves}
 use Rattle.answers.specs.Moves.{movedTo, rewound, toSync, takenOf}
-use Rattle.jobs.specs.Job.{sumsAfter, jobDone, wipeDone, sumsWiped}
+use Rattle.jobs.specs.Job.{sumsAfter, jobDone, sumsWiped}
 use Rattle.command.specs.Download.{progOf, eraseOf, byNumber, pieceOf}
 use Rattle.loader.specs.Step.{withReply, stepOf, settled}
 use Rattle.demands.specs.Calls.{Call, Site, called}
@@ -56,7 +54,7 @@ module _
   erase-leaves :
       called stepOf at c
       ≡ leaves (takenOf (toSync (withSums (at .session) erase-sums) idle noDownload)) (erased (at .flash) block count) (c .reply)
-  unfolding byNumber eraseOf erase-sums settled jobDone wipeDone sumsWiped movedTo
+  unfolding byNumber eraseOf erase-sums settled jobDone sumsWiped movedTo
   erase-leaves =
       command-leaves at c 4 8 k (omega arith) (omega arith) (omega arith) (inr refl)
       ∙ rw (range .block-is, range .count-is, legal-in at block (startOf count) (legal-near at c (k .asks .prepared)) legal)

@@ -18,7 +18,7 @@ use Rattle.request.specs.Request.{setupOf, formOf, requestOf, wLength, dataAske
 use Rattle.answers.specs.declared.Answer.{Answer}
 use Rattle.answers.specs.Answers.{Leaves, outcome, leaves}
 use Rattle.answers.specs.Moves.{movedTo, stallOf, faultOf}
-use Rattle.jobs.specs.Job.{sumsAfter, jobDone, wipeDone, bytesDone, sumsWiped}
+use Rattle.jobs.specs.Job.{sumsAfter, jobDone, sumsWiped}
 use Rattle.command.specs.Download.{allErased, progOf, eraseOf, wellFormed, wroteOf}
 use Rattle.command.specs.Download.{byNumber, commandOf, closedOf, pieceOf, dnloadOf}
 use Rattle.loader.specs.Reply.{answered, entered, polled, pollTime, getstatusOf, getstateOf, queryOf}
@@ -97,7 +97,7 @@ module _ (p q : ℕ) (f buffer : List ℕ) (sized : length f ≡ startOf 64) (ro
   module _ (sums : Sums) where
     after-erase : afterCall stepOf (site (held 2 0 2 0 0 sums) f) (eraseAll buffer) ≡ site (held 3 0 2 0 0 (refreshed sums w 16 64 16 64)) w
     unfolding fitOf streamLength freshOf wholeUpload appEnd dataAsked setupOf formOf allowedOf served dnloadOf commandOf wellFormed
-        byNumber settled jobDone eraseOf wipeDone sumsWiped movedTo
+        byNumber settled jobDone eraseOf sumsWiped movedTo
     after-erase = after-call-from _ _ _ (serves (held 2 0 2 0 0 sums) f (eraseAll buffer) refl sized refl refl refl refl refl)
 
     after-seven : afterCall stepOf (site (held 2 0 2 0 0 sums) f) (seven buffer) ≡ site (held 10 0x0B 2 0 0 sums) f
@@ -118,7 +118,7 @@ module _ (p q : ℕ) (f buffer : List ℕ) (sized : length f ≡ startOf 64) (ro
 
     after-one : afterCall stepOf (site (held 2 0 2 0 0 sums) w) (progOne buffer) ≡ site (held 3 0 5 16384 1 one-sums) w
     unfolding one-sums fitOf streamLength freshOf wholeUpload appEnd dataAsked setupOf formOf allowedOf served dnloadOf commandOf
-        wellFormed byNumber settled jobDone progOf wroteOf bytesDone movedTo
+        wellFormed byNumber settled jobDone progOf wroteOf movedTo
     after-one =
         after-call-from _ _ (leaves (outcome Answer.Taken 0 (held 3 0 5 16384 1 one-sums)) w buffer)
         (serves (held 2 0 2 0 0 sums) w (progOne buffer) refl w-long refl refl refl refl refl
@@ -129,7 +129,7 @@ module _ (p q : ℕ) (f buffer : List ℕ) (sized : length f ≡ startOf 64) (ro
 
     after-zero : afterCall stepOf (site (held 2 0 2 0 0 sums) w) (progZero buffer) ≡ site (held 3 0 5 16385 0 zero-sums) z
     unfolding zero-sums fitOf streamLength freshOf wholeUpload appEnd dataAsked setupOf formOf allowedOf served dnloadOf commandOf
-        wellFormed byNumber settled jobDone progOf wroteOf bytesDone movedTo
+        wellFormed byNumber settled jobDone progOf wroteOf movedTo
     after-zero =
         after-call-from _ _ (leaves (outcome Answer.Taken 0 (held 3 0 5 16385 0 zero-sums)) z buffer)
         (serves (held 2 0 2 0 0 sums) w (progZero buffer) refl w-long refl refl refl refl refl
@@ -223,8 +223,8 @@ module _ (p q : ℕ) (f buffer : List ℕ) (sized : length f ≡ startOf 64) (ro
   -- all that each asks and expects is computed where it stands
   desk : All (Expected stepOf) (deskCases startOutcome p q f buffer)
   unfolding fitOf streamLength freshOf wholeUpload appEnd dataAsked setupOf formOf allowedOf served stallOf faultOf movedTo answered
-      getstateOf queryOf getstatusOf polled entered pollTime dnloadOf commandOf wellFormed byNumber settled jobDone eraseOf wipeDone
-      sumsWiped progOf wroteOf bytesDone pieceOf closedOf
+      getstateOf queryOf getstatusOf polled entered pollTime dnloadOf commandOf wellFormed byNumber settled jobDone eraseOf
+      sumsWiped progOf wroteOf pieceOf closedOf
   desk =
       example 0 _ _ at-start (serves _ f _ refl sized refl refl refl refl refl) refl refl refl refl refl refl
       and example 1 _ _ at-start (serves _ f _ refl sized refl refl refl refl refl) refl refl refl refl refl refl

@@ -10,7 +10,7 @@ use Rattle.session.specs.Session.{appEnd, downOf, noDownload, withSums}
 use Rattle.session.specs.declared.Session.{Session}
 use Rattle.answers.specs.Answers.{Leaves, Done, Replied, done, leaves}
 use Rattle.answers.specs.Moves.{movedTo, toSync, takenOf}
-use Rattle.jobs.specs.Job.{Plan, planOf, wipeOf, sumsAfter, sumsWiped, bytesDone, wipeDone, jobDone}
+use Rattle.jobs.specs.Job.{Plan, planOf, wipeOf, sumsAfter, sumsWiped, jobDone}
 use Rattle.command.specs.Download.{wroteOf}
 use Rattle.loader.specs.Step.{decided, withReply, settled}
 
@@ -46,7 +46,7 @@ wipedOf s flash block count =
 pub bytes-finished :
     (s : Session) (f d reply : List ℕ) (at skip n left : ℕ) → n ≡ length (drop skip d)
     → finished (wroteOf s at skip n left) f d reply ≡ withReply (storedOf s f at (drop skip d) left) reply
-unfolding settled wroteOf jobDone bytesDone storedOf movedTo
+unfolding settled wroteOf jobDone storedOf movedTo
 bytes-finished s f d reply at skip n left e =
     let sums = sumsAfter (s .board) (s .sums) (spliced f at (drop skip d)) at (length (drop skip d)) in
     ap
@@ -57,5 +57,5 @@ pub wipe-finished :
     (s : Session) (f d reply : List ℕ) (block count : ℕ)
     → finished (planOf (takenOf (toSync s idle noDownload)) (wipeOf block count)) f d reply
     ≡ withReply (wipedOf s f block count) reply
-unfolding settled jobDone wipeDone sumsWiped movedTo
+unfolding settled jobDone sumsWiped movedTo
 wipe-finished s f d reply block count = refl

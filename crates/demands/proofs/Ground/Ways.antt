@@ -1,10 +1,10 @@
 -- The ways through a call: what holds of each of them holds of the call. Every demand goes by these cases, so that the tests of the
 -- step are taken apart once. Assumes nothing.
 use Prim.Native.Nat.{ℕ, _-_, _≤_}
-use mathlib.Core.Bool.{Bool, true, false, _&&_, _||_, false≢true}
+use mathlib.Core.Bool.{true, false, _&&_, _||_, false≢true}
 use mathlib.Core.List.{List}
 use mathlib.Core.Logic.{⊎-elim}
-use mathlib.Core.Path.{_≡_, refl, sym, subst, subst⁻¹, _∙_}
+use mathlib.Core.Path.{_≡_, refl, sym, subst, subst⁻¹}
 use native.Mathlib.Omega.{arith}
 use borrow.Author.Tests.{eqb-true, eqb-false, ne-eqb, leb-true}
 use lib.Dec.{eqb, leb}
@@ -113,9 +113,14 @@ module _ (s : Session) (f setup d reply : List ℕ) (P : Leaves → Type 0) (w :
   Only : Outcome → Type 0
   Only o = P (leaves o f reply)
 
+  -- which a plan without a job does
+  alone : (o : Outcome) → Only o → Finishes (planOf o Job.Nothing)
+  unfolding Finishes Only settled jobDone
+  alone o x = x
+
   faulty : Loads s f setup idle → (status : ℕ) → FaultStatus status → Finishes (planOf (faultOf s status) Job.Nothing)
-  unfolding Finishes settled jobDone
-  faulty l = w .faults (l .fit) (l .is-dnload)
+  unfolding Only
+  faulty l status why = alone _ (w .faults (l .fit) (l .is-dnload) status why)
 
   prog-ways :
       Loads s f setup idle → getD d 0 0 ≡ prog → Finishes (progOf s f (wordAt d 2) (longAt d 4) (length d - 8))
@@ -160,23 +165,24 @@ module _ (s : Session) (f setup d reply : List ℕ) (P : Leaves → Type 0) (w :
       (λ i. faulty l address (out-of-range refl))
 
   carried-ways : Loads s f setup idle → wellFormed d ≡ true → Finishes (byNumber (getD d 0 0) s f d)
-  unfolding Finishes Only byNumber settled jobDone
+  unfolding Only byNumber
   carried-ways l g =
       pick Finishes (eqb (getD d 0 0) prog) _ _ (λ e. prog-ways l (eqb-true _ _ e))
       (λ n1.
-      pick Finishes (eqb (getD d 0 0) read) _ _ (λ _. read-ways l)
+      pick Finishes (eqb (getD d 0 0) read) _ _ (λ _. alone _ (read-ways l))
       (λ n2.
-      pick Finishes (eqb (getD d 0 0) check) _ _ (λ _. check-ways l)
+      pick Finishes (eqb (getD d 0 0) check) _ _ (λ _. alone _ (check-ways l))
       (λ n3.
       pick Finishes (eqb (getD d 0 0) erase) _ _ (λ e. erase-ways l (eqb-true _ _ e))
       (λ n4.
-      pick Finishes (eqb (getD d 0 0) info) _ _ (λ _. w .informs l)
+      pick Finishes (eqb (getD d 0 0) info) _ _ (λ _. alone _ (w .informs l))
       (λ n5.
-      pick Finishes (eqb (getD d 0 0) bin) _ _ (λ _. w .bins l)
+      pick Finishes (eqb (getD d 0 0) bin) _ _ (λ _. alone _ (w .bins l))
       (λ n6.
-      w .resets l (others-eight d g (eqb-false _ _ n1))
+      alone _
+      (w .resets l (others-eight d g (eqb-false _ _ n1))
       (last-reset d g (eqb-false _ _ n1) (eqb-false _ _ n2) (eqb-false _ _ n3) (eqb-false _ _ n4) (eqb-false _ _ n5)
-      (eqb-false _ _ n6))))))))
+      (eqb-false _ _ n6)))))))))
 
   command-ways : Loads s f setup idle → Finishes (commandOf s f d)
   unfolding commandOf
@@ -189,15 +195,15 @@ module _ (s : Session) (f setup d reply : List ℕ) (P : Leaves → Type 0) (w :
       (λ _. w .faults (l .fit) (l .is-dnload) notDone (bytes-missing refl))
 
   piece-ways : Loads s f setup downloadIdle → Finishes (pieceOf s (length d))
-  unfolding Finishes Only pieceOf settled jobDone
+  unfolding Finishes Only pieceOf
   piece-ways l =
-      pick Finishes (eqb (length d) 0) _ _ (λ _. close-ways l)
+      pick Finishes (eqb (length d) 0) _ _ (λ _. alone _ (close-ways l))
       (λ _.
       pick Finishes (leb (length d) (s .down .left)) _ _
       (λ n.
       subst⁻¹ P (bytes-finished s f d reply (s .down .place .0) 0 (length d) (s .down .left - length d) refl)
       (w .pieces l (leb-true _ _ n)))
-      (λ _. w .faults (l .fit) (l .is-dnload) address (out-of-range refl)))
+      (λ _. alone _ (w .faults (l .fit) (l .is-dnload) address (out-of-range refl))))
 
   dnload-ways :
       Ready s f → requestOf setup ≡ Request.Dnload

@@ -7,7 +7,7 @@ use Rattle.session.specs.Session.{appEnd, streamLength, wholeUpload, freshOf}
 use Rattle.session.specs.Rules.{fitOf}
 use Rattle.request.specs.Request.{formOf, setupOf, dataAsked, allowedOf}
 use Rattle.answers.specs.Moves.{movedTo}
-use Rattle.jobs.specs.Job.{sumsAfter, jobDone, bytesDone}
+use Rattle.jobs.specs.Job.{sumsAfter, jobDone}
 use Rattle.command.specs.Download.{allErased, progOf, wellFormed, byNumber, commandOf, pieceOf, dnloadOf, wroteOf}
 use Rattle.loader.specs.Reply.{answered, entered, polled, pollTime, getstatusOf}
 use Rattle.loader.specs.Step.{startable, freshStart, startOutcome, ready, served, stepOf, settled, decidedOf}
@@ -41,7 +41,7 @@ pub record Continues : Type 0 where
 
 pub only-named-met : Continues
 unfolding before startSite begun blank range spliced firstIn searched appEnd streamLength wholeUpload freshOf fitOf formOf setupOf
-    dataAsked allowedOf movedTo allErased sumsAfter wroteOf bytesDone decidedOf progOf wellFormed byNumber settled jobDone commandOf
+    dataAsked allowedOf movedTo allErased sumsAfter wroteOf decidedOf progOf wellFormed byNumber settled jobDone commandOf
     pieceOf dnloadOf answered entered polled pollTime getstatusOf startable freshStart startOutcome ready served stepOf called afterCall
     afterCalls commandNames tookDnload mayChange noteOf notedAfter
 only-named-met = record { noted = refl; may = λ r. refl; erased-yet = refl; written = refl }

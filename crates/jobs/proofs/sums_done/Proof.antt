@@ -2,8 +2,8 @@
 use mathlib.Core.Path.{sym, ap, refl, _∙_}
 use native.Mathlib.Omega.{arith}
 use Rattle.jobs.specs.declared.Job.{Job}
-use Rattle.jobs.specs.Job.{sumsDone, sumsWiped}
-use Rattle.jobs.proofs.Laws.{same-refresh, place-within, can-bytes, bytes-summed, can-wipe, wipe-summed}
+use Rattle.jobs.specs.Job.{sumsWiped}
+use Rattle.jobs.proofs.Laws.{same-refresh, place-within, can-bytes, can-wipe, sums-told, bytes-summed}
 use borrow.Author.Needs.{needs}
 use Rattle.jobs.proofs.sums_done.Statement.{statement}
 use Rattle.jobs.proofs.sums_done.Tie as tie
@@ -22,14 +22,14 @@ sub-n c =
     let j = c .before in
     let s = j .before .before .before .before in
     let told = j .job .given in
-    can-bytes _ _ (s .args .kept) _ _ (s .pre) (told .0 .0) (told .0 .1 .0) (told .1) .0
+    can-bytes _ _ _ _ (s .pre) (told .0 .0) (told .0 .1 .0) (told .1) .0
 
 cast-n-2 : tie.Need-cast-n-2
 cast-n-2 c =
     let j = c .before in
     let s = j .before .before .before .before in
     let told = j .job .given in
-    let can = can-bytes _ _ (s .args .kept) _ _ (s .pre) (told .0 .0) (told .0 .1 .0) (told .1) in
+    let can = can-bytes _ _ _ _ (s .pre) (told .0 .0) (told .0 .1 .0) (told .1) in
     let w = place-within _ _ _ _ (can .1) (can .2) in
     record { fits = omega (arith, w .addressed) }
 
@@ -38,7 +38,7 @@ sums-after-requires c κs =
     let j = c .before in
     let s = j .before .before .before .before in
     let told = j .job .given in
-    let can = can-bytes _ _ (s .args .kept) _ _ (s .pre) (told .0 .0) (told .0 .1 .0) (told .1) in
+    let can = can-bytes _ _ _ _ (s .pre) (told .0 .0) (told .0 .1 .0) (told .1) in
     (can .1, record { low = can .2 .low; high = omega (arith, can .2 .high) })
 
 enum-known-job-2 : tie.Need-enum-known-job-2
@@ -49,7 +49,7 @@ add-t17 c =
     let j = c .before .before in
     let s = j .before .before .before .before in
     let told = j .job2 .given in
-    let can = can-wipe _ _ (s .args .kept) _ _ (s .pre) (told .0 .0) (told .0 .1 .0) (told .1) in
+    let can = can-wipe _ _ _ _ (s .pre) (told .0 .0) (told .0 .1 .0) (told .1) in
     let w = place-within _ _ _ _ (can .0) (can .1) in
     record { fits = omega (arith, w .addressed) }
 
@@ -61,7 +61,7 @@ refresh-requires c κs =
     let j = c .before .before .before in
     let s = j .before .before .before .before in
     let told = j .job2 .given in
-    let can = can-wipe _ _ (s .args .kept) _ _ (s .pre) (told .0 .0) (told .0 .1 .0) (told .1) in
+    let can = can-wipe _ _ _ _ (s .pre) (told .0 .0) (told .0 .1 .0) (told .1) in
     let split = can .0 in
     let end = c .app-end .ensures in (
       record {
@@ -73,18 +73,16 @@ refresh-requires c κs =
     )
 
 returns : tie.Need-returns
-unfolding sumsDone
 returns c =
     let s = c .before .before .before .before in
-    sym
-    (ap (λ (j : Job). sumsDone j (s .args .board) (s .args .kept) (s .args .flash .now) (s .args .d .now)) (c .enum-told .given .1))
+    sums-told _ (s .args .board) (s .args .kept) (s .args .flash .now) (s .args .d .now) _ (c .enum-told .given .1)
 
 returns-2 : tie.Need-returns-2
 returns-2 c =
     let j = c .before .before in
     let s = j .before .before .before .before in
     let told = j .job .given in
-    c .sums-after .ensures ∙ bytes-summed _ _ (s .args .kept) _ _ (s .pre) (told .0 .0) (told .0 .1 .0) (told .1)
+    c .sums-after .ensures ∙ bytes-summed _ _ (s .args .kept) _ _ (told .0 .0) (told .0 .1 .0) (told .1)
 
 returns-3 : tie.Need-returns-3
 unfolding sumsWiped
@@ -94,7 +92,7 @@ returns-3 c =
     let told = j .job2 .given in
     c .refresh .ensures
     ∙ same-refresh _ _ _ (c .before .app-end .ensures) refl refl
-    ∙ wipe-summed _ _ (s .args .kept) _ _ (s .pre) (told .0 .0) (told .0 .1 .0) (told .1)
+    ∙ sums-told _ _ (s .args .kept) _ (s .args .d .now) _ (told .1)
 
 pub sums-done-spec : {M : Type 1} → statement M
 sums-done-spec =

@@ -1,5 +1,5 @@
 -- The split is allowed, so both ends of the application are in reach and the first comes first.
-use Prim.Native.Nat.{ℕ, _-_, _*_}
+use Prim.Native.Nat.{_-_, _*_}
 use mathlib.Core.Path.{_≡_}
 use native.Mathlib.Omega.{arith}
 use Rattle.session.specs.Session.{appEnd, wholeUpload}

@@ -23,12 +23,12 @@ use Rattle.numbers.specs.Numbers.{wordAt, longAt}
 use Rattle.numbers.proofs.Laws.{four-bytes}
 use Rattle.request.specs.Request.{allowedOf}
 use Rattle.stream.specs.Stream.{headerOf}
-use Rattle.answers.specs.Answers.{Done, leaves}
+use Rattle.answers.specs.Answers.{leaves}
 use Rattle.answers.specs.Moves.{movedTo, takenOf}
-use Rattle.jobs.specs.Job.{Plan, sumsAfter, jobDone}
+use Rattle.jobs.specs.Job.{Plan, sumsAfter}
 use Rattle.command.specs.Download.{nothing, allErased, progOf, wellFormed, byNumber, pieceOf, dnloadOf}
 use Rattle.loader.specs.Reply.{entered, polled}
-use Rattle.loader.specs.Step.{withReply, stepOf, settled}
+use Rattle.loader.specs.Step.{stepOf}
 use Rattle.demands.specs.Calls.{Site, called}
 use Rattle.demands.specs.Does.ReadBack.{Host, asks, Ran, run, dnload, poll, sends}
 use Rattle.demands.proofs.Does.ReadBack.Calls.{siteOf, on-taken, is-yes, is-no, dnload-called}

@@ -4,7 +4,7 @@ use mathlib.Core.Bool.{true}
 use mathlib.Core.List.{List}
 use mathlib.Core.Path.{_≡_, refl, ap, ap₂, _∙_}
 use native.Mathlib.Omega.{arith}
-use borrow.Author.Tests.{eq-eqb, ne-eqb, le-leb, lt-ltb}
+use borrow.Author.Tests.{eq-eqb, ne-eqb}
 use lib.ListN.{length, getD}
 use Rattle.flash.specs.Flash.{startOf, nextStart, erased}
 use Rattle.sums.specs.declared.Sums.{Sums}
@@ -18,14 +18,14 @@ use Rattle.session.proofs.Laws.{fit-kept, split-facts, end-in-flash, inside-fac
 use Rattle.numbers.specs.Numbers.{wordAt, longAt}
 use Rattle.numbers.proofs.Laws.{four-bytes}
 use Rattle.request.specs.Request.{allowedOf}
-use Rattle.answers.specs.Answers.{Done, leaves}
+use Rattle.answers.specs.Answers.{leaves}
 use Rattle.answers.specs.Moves.{movedTo, toSync, takenOf}
-use Rattle.jobs.specs.Job.{Plan, jobDone, wipeDone, sumsWiped}
+use Rattle.jobs.specs.Job.{Plan, jobDone, sumsWiped}
 use Rattle.command.specs.Ready.{Ready}
 use Rattle.command.specs.Download.{dnloadOf, commandOf, byNumber, wellFormed, readOf, eraseOf}
 use Rattle.command.proofs.Laws.{long-enough}
 use Rattle.loader.specs.Reply.{answered, polled, getstatusOf}
-use Rattle.loader.specs.Step.{withReply, stepOf, settled}
+use Rattle.loader.specs.Step.{stepOf, settled}
 use Rattle.demands.specs.Calls.{called}
 use Rattle.demands.specs.Does.ReadBack.{Host, ends, asks, run, dnload, poll, readCommand, eraseCommand}
 use Rattle.demands.proofs.Ground.Finished.{finished}
@@ -100,7 +100,7 @@ module _
       ≡ leaves (takenOf (inState base block len atCommand noDownload 0 (wiped-sums (base .board) block len sums f)))
       (erased f block (nextStart len))
       lent
-  unfolding eraseCommand wellFormed byNumber eraseOf settled jobDone wipeDone sumsWiped movedTo
+  unfolding eraseCommand wellFormed byNumber eraseOf settled jobDone sumsWiped movedTo
   erase-called =
       let s = inState base block len atIdle noDownload 0 sums in
       let small = near (base .board) block len split legal in

@@ -4,18 +4,18 @@ use borrow.Author.Needs.{needs}
 use Rattle.loader.proofs.reply.query.Statement.{statement}
 use Rattle.loader.proofs.reply.query.Tie as tie
 
-slice-aggregate-told : tie.Need-slice-aggregate-told
-slice-aggregate-told c = search needs
+slice-aggregate-stays : tie.Need-slice-aggregate-stays
+slice-aggregate-stays c = search needs
 
-told-requires : tie.Need-told-requires
-told-requires c κs = search needs
+stays-requires : tie.Need-stays-requires
+stays-requires c κs = search needs
 
 same-length : tie.Need-same-length
 same-length c = search needs
 
 returns : tie.Need-returns
 unfolding queryOf
-returns c = c .before .before .told .ensures
+returns c = c .before .before .stays .ensures
 
 pub query-spec : {M : Type 1} → statement M
-query-spec = tie.close (tie.spec slice-aggregate-told told-requires same-length returns)
+query-spec = tie.close (tie.spec slice-aggregate-stays stays-requires same-length returns)

@@ -36,6 +36,13 @@ impl Rows {
         self.info_of_large();
         self.far_sums();
         self.add(
+            "reset asked, with a sum kept of a block at an address of more than 16 bits",
+            |seen| {
+                let far = seen.lent().sums[SMALL as usize..].iter().any(|sum| *sum != 0);
+                seen.answered(answer::RESET_ASKED) && far
+            },
+        );
+        self.add(
             "unfit: a block too many alone, with all its bytes",
             |seen| {
                 let too_many = seen.answered(answer::UNFIT) && seen.lent().b == MOST + 1;

@@ -3,8 +3,8 @@ use mathlib.Core.Path.{ap}
 use Rattle.session.specs.Session.{withTalk}
 use Rattle.loader.proofs.Laws.{answered-at}
 use borrow.Author.Needs.{needs}
-use Rattle.loader.proofs.reply.told.Statement.{statement}
-use Rattle.loader.proofs.reply.told.Tie as tie
+use Rattle.loader.proofs.reply.stays.Statement.{statement}
+use Rattle.loader.proofs.reply.stays.Tie as tie
 
 talk-of-requires : tie.Need-talk-of-requires
 talk-of-requires c κs = search needs
@@ -22,5 +22,5 @@ returns c =
     let s = t .before .before .before .args .s in
     answered-at s s _ _ _ _ _ (a .answer .ensures .0) (a .answer .ensures .1) (ap (withTalk s) (t .talk-of .ensures))
 
-pub told-spec : {M : Type 1} → statement M
-told-spec = tie.close (tie.spec talk-of-requires answer-requires same-length returns)
+pub stays-spec : {M : Type 1} → statement M
+stays-spec = tie.close (tie.spec talk-of-requires answer-requires same-length returns)
