@@ -377,7 +377,9 @@ mod tests {
     /// Without lent sessions the sums must stay those worked out afresh.
     #[test]
     fn tame_histories_keep_their_sums() {
-        let across = BORDERS.iter().position(|split| *split == (SMALL - 1, SMALL + 2));
+        let across = BORDERS
+            .iter()
+            .position(|split| *split == (SMALL - 1, SMALL + 2));
         let across = 2 * across.unwrap() as u64 * ROUND + ROUND - 1;
         for number in [0, 2, 32, 34, ROUND - 1, across] {
             let history = played(5, number);

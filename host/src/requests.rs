@@ -155,6 +155,7 @@ fn sensible(dice: &mut Dice, session: &Session, flash: &[u8]) -> Request {
     match (session.state, roll) {
         (_, 0) => any_status(dice),
         (state::IDLE, 1..=2) => upload(dice, session),
+        (state::IDLE, 3..=5) if reads_the_last(session) => upload(dice, session),
         (state::IDLE, _) => dnload(a_command(dice, session, flash)),
         (state::DOWN_SYNC | state::MANIFEST_SYNC, 1) => any_request(dice),
         (state::DOWN_SYNC | state::MANIFEST_SYNC, _) => request(0xA1, 3, 6),
@@ -164,6 +165,13 @@ fn sensible(dice: &mut Dice, session: &Session, flash: &[u8]) -> Request {
         (state::UP_IDLE, _) => upload(dice, session),
         _ => request(0x21, 4, 0),
     }
+}
+
+/// The chosen stream is the last of the most blocks, or the end of it: it is
+/// seldom chosen, and soon another is.
+fn reads_the_last(session: &Session) -> bool {
+    let last = MOST_BLOCKS as u32 - 1;
+    session.up_choice != INFO_STREAM && session.up_first == last
 }
 
 fn any_status(dice: &mut Dice) -> Request {
@@ -233,7 +241,7 @@ fn a_command(dice: &mut Dice, session: &Session, flash: &[u8]) -> Vec<u8> {
 fn whole_command(dice: &mut Dice, session: &Session, flash: &[u8]) -> Vec<u8> {
     // All of the most blocks are seldom erased at once.
     if session.b - session.a == MOST_BLOCKS as u32 - 1 && dice.below(2) == 0 {
-        return whole_range(dice, session);
+        return whole_range(dice, session, flash);
     }
     let (block, count) = blocks(dice, session);
     match dice.below(25 + 10 * u32::from(session.b > SMALL)) {
@@ -333,8 +341,14 @@ fn range_of(dice: &mut Dice, block: u32, bytes: u32) -> Vec<u8> {
     header(number, block as u16, length).to_vec()
 }
 
-fn whole_range(dice: &mut Dice, session: &Session) -> Vec<u8> {
-    range_of(dice, session.a, (session.b - session.a) * BLOCK)
+fn whole_range(dice: &mut Dice, session: &Session, flash: &[u8]) -> Vec<u8> {
+    let bytes = (session.b - session.a) * BLOCK;
+    let (first, end) = (session.a * BLOCK, session.b * BLOCK);
+    let application = &flash[first as usize..end as usize];
+    if application.iter().all(|byte| *byte == ERASED) && dice.below(4) == 0 {
+        return header(command::CHECK, session.a as u16, bytes).to_vec();
+    }
+    range_of(dice, session.a, bytes)
 }
 
 /// A command of a large flash, with a range that is long or at one of the borders

@@ -38,7 +38,9 @@ impl Rows {
         self.add(
             "reset asked, with a sum kept of a block at an address of more than 16 bits",
             |seen| {
-                let far = seen.lent().sums[SMALL as usize..].iter().any(|sum| *sum != 0);
+                let far = seen.lent().sums[SMALL as usize..]
+                    .iter()
+                    .any(|sum| *sum != 0);
                 seen.answered(answer::RESET_ASKED) && far
             },
         );
