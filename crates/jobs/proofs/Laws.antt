@@ -22,7 +22,7 @@ use Rattle.jobs.specs.declared.Decision.{Decision}
 use Rattle.jobs.specs.declared.Job.{Job}
 use Rattle.jobs.specs.declared.Job.the-variants.{Nothing, Bytes, Wipe}
 use Rattle.jobs.specs.Job.{planOf, decisionOf, planned}
-use Rattle.jobs.specs.Job.{Place, Can, Reaches, storesFor, sumsAfter, sumsWiped, flashDone, sumsDone, summed, jobDone}
+use Rattle.jobs.specs.Job.{Place, Can, Reaches, storesFor, sumsAfter, flashDone, sumsDone, summed, jobDone}
 
 -- what leaves flash alone, at a session
 pub only-at :

@@ -142,6 +142,12 @@ allowed-loading s asked e =
           (either (eqb (s .phase .state .0) idle && not (eqb asked 0)) (eqb (s .phase .state .0) downloadIdle) e);
     }
 
+-- the table's answer is that of the request and the length that were read
+pub allowed-read :
+    (s : Session) {yes : Bool} {q r : Request} {k n : ℕ} → yes ≡ allowedOf q k (s .phase .state .0) → q ≡ r → k ≡ n
+    → yes ≡ allowedOf r n (s .phase .state .0)
+allowed-read s e p l = e ∙ ap₂ (λ (x : Request) (y : ℕ). allowedOf x y (s .phase .state .0)) p l
+
 -- a request that is told is served as that request
 pub as-told :
     (r q : Request) (s : Session) (f : List ℕ) (n : ℕ) (d b : List ℕ) (x : Decided) → r ≡ q → x ≡ served q s f n d b

@@ -35,7 +35,8 @@ returns-2 c =
     let e = c .before .before in
     let i = e .before .before in
     yes-is _ _ _ _ (passed _ _ (i .before .in-application .ensures) (i .if1 .left))
-    (yes-is _ _ _ _ (told _ _ _ (e .before .erased .ensures) (e .if2 .taken)) (taken-at (i .before .before .before .args .s) _ _ _ (c .taken .ensures) (c .before .sync .ensures)))
+    (yes-is _ _ _ _ (told _ _ _ (e .before .erased .ensures) (e .if2 .taken))
+    (taken-at (i .before .before .before .args .s) _ _ _ (c .taken .ensures) (c .before .sync .ensures)))
 
 faulted-requires-2 : tie.Need-faulted-requires-2
 faulted-requires-2 c κs = search needs

@@ -1,5 +1,5 @@
 -- The blocks from that of the first byte to that of the last are refreshed. Assumes nothing.
-use mathlib.Core.Path.{_≡_, refl, _∙_}
+use mathlib.Core.Path.{refl, _∙_}
 use native.Mathlib.Omega.{arith}
 use borrow.Author.Tests.{eq-eqb, ne-eqb}
 use Rattle.jobs.proofs.Picks.{yes-is, no-is}

@@ -1,7 +1,6 @@
 -- Each arm by its job, which lies in the application. Assumes nothing.
-use mathlib.Core.Path.{sym, ap, refl, _∙_}
+use mathlib.Core.Path.{refl, _∙_}
 use native.Mathlib.Omega.{arith}
-use Rattle.jobs.specs.declared.Job.{Job}
 use Rattle.jobs.specs.Job.{sumsWiped}
 use Rattle.jobs.proofs.Laws.{same-refresh, place-within, can-bytes, can-wipe, sums-told, bytes-summed}
 use borrow.Author.Needs.{needs}

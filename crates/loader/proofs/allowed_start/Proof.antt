@@ -1,5 +1,4 @@
 -- An allowed B is in reach. Assumes nothing.
-use mathlib.Core.Path.{_∙_}
 use Rattle.session.specs.Session.{allowedSplit}
 use Rattle.loader.specs.Step.{startable}
 use Rattle.loader.proofs.Laws.{same-behind, split-ends}

@@ -3,12 +3,11 @@ use Prim.Native.Nat.{ℕ}
 use mathlib.Core.Path.{sym, ap₂, _∙_}
 use native.Mathlib.Omega.{arith}
 use lib.ListN.{length}
-use Rattle.request.specs.Request.{allowedOf}
 use Rattle.request.specs.declared.Request.{Request}
 use Rattle.request.proofs.Laws.{upload-length}
 use Rattle.jobs.proofs.Picks.{yes-is, no-is, refused, passed}
 use Rattle.loader.specs.Step.{served, decidedOf}
-use Rattle.loader.proofs.Laws.{ready-fit, ready-room, only-told}
+use Rattle.loader.proofs.Laws.{ready-fit, ready-room, allowed-read, only-told}
 use borrow.Author.Needs.{needs}
 use Rattle.loader.proofs.decide.Statement.{statement}
 use Rattle.loader.proofs.decide.Tie as tie
@@ -53,11 +52,10 @@ returns-2 c =
     let i = l .before .before in
     let y = i .before in
     let s = y .before .before .before .before .before in
-    let r = l .before .read-setup .ensures in
-    let n = l .length-of .ensures in
-    let test = a .allowed .ensures ∙ ap₂ (λ (q : Request) (k : ℕ). allowedOf q k (s .args .s .phase .state .0)) r n in
+    let test = allowed-read (s .args .s) (a .allowed .ensures) (l .before .read-setup .ensures) (l .length-of .ensures) in
     yes-is _ _ _ _ (passed _ _ (y .is-ready .ensures) (i .if1 .left))
-    (no-is _ _ _ _ (refused _ _ test (c .before .before .if2 .taken)) (only-told (s .args .s) _ _ _ (c .only2 .ensures) _ (c .before .stalled .ensures)))
+    (no-is _ _ _ _ (refused _ _ test (c .before .before .if2 .taken))
+    (only-told (s .args .s) _ _ _ (c .only2 .ensures) _ (c .before .stalled .ensures)))
 
 serve-requires : tie.Need-serve-requires
 serve-requires c κs =
@@ -91,7 +89,7 @@ returns-3 c =
     let s = y .before .before .before .before .before in
     let r = l .before .read-setup .ensures in
     let n = l .length-of .ensures in
-    let test = a .allowed .ensures ∙ ap₂ (λ (q : Request) (k : ℕ). allowedOf q k (s .args .s .phase .state .0)) r n in
+    let test = allowed-read (s .args .s) (a .allowed .ensures) r n in
     yes-is _ _ _ _ (passed _ _ (y .is-ready .ensures) (i .if1 .left))
     (yes-is _ _ _ _ (passed _ _ test (v .before .before .if2 .left))
     (v .serve .ensures

@@ -1,6 +1,5 @@
 -- By what `data_asked` and `fit` answer; a B that is fit is in reach. Assumes nothing.
 use mathlib.Core.Bool.{_&&_}
-use mathlib.Core.Path.{_∙_}
 use lib.Dec.{eqb, leb}
 use lib.ListN.{length}
 use Rattle.request.specs.Request.{dataAsked}

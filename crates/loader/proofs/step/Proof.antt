@@ -46,7 +46,10 @@ returns c =
     let f = s .args .flash .now in
     let d = s .args .d .now in
     so-settled (s .args .s) (v .decide .result) _ f d _ _ _
-    (decision-can (s .args .s) f (s .args .setup .now) d (s .args .reply .now) _ _ (v .decide .ensures)) (o .carry-out .ensures) (c .finished .ensures) (v .decide .ensures)
+    (decision-can (s .args .s) f (s .args .setup .now) d (s .args .reply .now) _ _ (v .decide .ensures))
+    (o .carry-out .ensures)
+    (c .finished .ensures)
+    (v .decide .ensures)
 
 pub step-spec : {M : Type 1} → statement M
 step-spec =
