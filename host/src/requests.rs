@@ -341,6 +341,8 @@ fn range_of(dice: &mut Dice, block: u32, bytes: u32) -> Vec<u8> {
     header(number, block as u16, length).to_vec()
 }
 
+/// All of the application; where it is all erased, more often the CHECK that finds
+/// it so.
 fn whole_range(dice: &mut Dice, session: &Session, flash: &[u8]) -> Vec<u8> {
     let bytes = (session.b - session.a) * BLOCK;
     let (first, end) = (session.a * BLOCK, session.b * BLOCK);

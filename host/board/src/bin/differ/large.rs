@@ -38,10 +38,9 @@ impl Rows {
         self.add(
             "reset asked, with a sum kept of a block at an address of more than 16 bits",
             |seen| {
-                let far = seen.lent().sums[SMALL as usize..]
-                    .iter()
-                    .any(|sum| *sum != 0);
-                seen.answered(answer::RESET_ASKED) && far
+                let Session { b, sums, .. } = seen.lent();
+                let mut far = sums.iter().take(*b as usize).skip(SMALL as usize);
+                seen.answered(answer::RESET_ASKED) && far.any(|sum| *sum != 0)
             },
         );
         self.add(
