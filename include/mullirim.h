@@ -12,7 +12,9 @@
  *  - what is written (session, flash, reply) overlaps with nothing else that the same call is lent;
  *  - nobody else writes any of it while a call runs, nor the flash and the session between two calls.
  *    A session that somebody else wrote is refused (answer 2) if it breaks its rules, and else served as it stands: a smaller
- *    `first` opens blocks that the start had kept shut, and wrong sums may stay wrong. No byte beyond what was lent is touched.
+ *    `first` opens blocks that the start had kept shut, and a wrong block sum stays until its block is erased or written. An erase
+ *    or a write joins the whole sum from the block sums and reads no other block, so a wrong one makes the whole wrong too. The
+ *    same goes for sums that flash written by somebody else has left behind. No byte beyond what was lent is touched.
  */
 #ifndef MULLIRIM_H
 #define MULLIRIM_H
@@ -75,7 +77,7 @@ struct mullirim_upload {
 /* The kept sums: CRC-32 as in a DFU file suffix, from 0xFFFFFFFF and with no complement at the end. */
 struct mullirim_sums {
     uint32_t block[MULLIRIM_MOST_BLOCKS]; /* by block number; 0 for what is not a block of the application */
-    uint32_t whole;                       /* over the application, in the order of addresses */
+    uint32_t whole;                       /* over the application, in the order of addresses; had from the block sums */
 };
 
 /* A session. Read it as you like; only the two calls write it. */
