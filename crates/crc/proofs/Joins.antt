@@ -1,20 +1,20 @@
 -- The laws of the join: what a sum is after a block, from the block's own sum; and the table that the join reads. Assumes nothing.
 use mathlib.Core.Path.{_≡_, refl, sym, ap, ap₂, _∙_, subst}
 use mathlib.Core.Bool.{cond}
-use mathlib.Core.List.{List, [], _∷_, map}
+use mathlib.Core.List.{List, [], _∷_}
 use Prim.Native.Nat.{ℕ, zero, suc, _+_, _-_, _*_, _/_, _%_, _^_, _≤_, _<_}
-use native.Mathlib.Nat.{zero-mul, one-mul, mul-one, mul-assoc, add-mul, zero-add, suc-add, add-comm, zero-lt-suc, mod-lt, div-add-mod', lt-of-lt-of-le, two-pow-succ}
+use native.Mathlib.Nat.{zero-mul, one-mul, mul-one, mul-assoc, add-mul, zero-add, suc-add, add-comm, zero-lt-suc}
+use native.Mathlib.Nat.{mod-lt, div-add-mod', lt-of-lt-of-le, two-pow-succ}
 use native.Mathlib.Numerals.{add-one}
 use native.Mathlib.Omega.{arith}
 use lib.Arith.{digits-div, digits-mod}
 use lib.Dec.{eqb}
-use lib.ListN.{length, getD, drop, drop-of-length-le}
-use lib.Seq.{drop-cons}
+use lib.ListN.{length, getD}
 use lib.Pow.{pow-pos, pow-mono, pow-lt, pow-add, shl-lt, shr-lt}
 use lib.Bits.{bitXor, xor-comm, xor-self, xor-zero-l, xor-zero-r, xor-shifted}
 use Rattle.crc.specs.Values.{values}
 use Rattle.crc.specs.Crc.{start, bitStep, bitSteps, byteStep, crcFrom, crcOf}
-use Rattle.crc.specs.Join.{blockBits, joined, joinedFrom, squarings, through, squared, columnsOf, halves, blockHalves}
+use Rattle.crc.specs.Join.{blockBits, joined, squarings, through, squared, columnsOf, halves, blockHalves}
 use Rattle.crc.proofs.Values.{values-at, values-same, map-values}
 use Rattle.crc.proofs.Bits.{of-digits, low-digit, xor-assoc}
 use Rattle.crc.proofs.Laws.{bits-fit, bits-xor}
@@ -52,16 +52,6 @@ crc-joined c block e =
     ∙ crc-xor start (bitXor c start) block
     ∙ ap (λ (n : ℕ). bitXor (crcOf block) (bitSteps n (bitXor c start))) e
     ∙ xor-comm (crcOf block) (bitSteps blockBits (bitXor c start))
-
--- a turn of the walk over blocks joins the next one, and past the last one nothing is left
-pub join-next : (c s : ℕ) (blocks : List ℕ) (i : ℕ) → i < length blocks → s ≡ joined c (getD blocks i 0)
-    → joinedFrom s (drop (i + 1) blocks) ≡ joinedFrom c (drop i blocks)
-unfolding joinedFrom
-join-next c s blocks i h e = rw (e, add-one, drop-cons blocks i 0)
-
-pub join-done : (c : ℕ) (blocks : List ℕ) (i : ℕ) → length blocks ≤ i → joinedFrom c (drop i blocks) ≡ c
-unfolding joinedFrom
-join-done c blocks i h = rw (drop-of-length-le blocks h)
 
 -- ---- the table
 

@@ -1,14 +1,12 @@
 -- The laws of the sum: bytes in a row, its bound, its check value, and the table step. Assumes nothing.
 use mathlib.Core.Path.{_≡_, refl, sym, ap, ap₂, _∙_}
 use mathlib.Core.Bool.{cond}
-use mathlib.Core.List.{List, [], _∷_, _++_}
-use Prim.Native.Nat.{ℕ, zero, suc, _+_, _*_, _/_, _%_, _^_, _≤_, _<_}
+use mathlib.Core.List.{List, [], _∷_, _++_, foldl-append}
+use Prim.Native.Nat.{ℕ, zero, suc, _+_, _*_, _/_, _%_, _^_, _<_}
 use native.Mathlib.Nat.{div-le-self, div-eq-of-lt, lt-of-le-of-lt, mod-lt}
-use native.Mathlib.Numerals.{add-one}
 use native.Mathlib.Omega.{arith}
 use lib.Dec.{eqb}
-use lib.ListN.{length, getD, drop, drop-of-length-le}
-use lib.Seq.{drop-cons}
+use lib.ListN.{getD}
 use lib.Bits.{bitXor, differ, xor-lt, xor-shr, xor-zero-r, shifted-half, shifted-even}
 use Rattle.crc.specs.Crc.{polynomial, start, bitStep, bitSteps, byteStep, crcFrom, crcOf, remainders}
 use Rattle.crc.proofs.Values.{values-at}
@@ -17,23 +15,12 @@ use Rattle.crc.proofs.Bits.{of-digits, low-digit, xor-low, xor-half, xo
 -- bytes in a row are summed one list after the other
 pub crc-append : (c : ℕ) (xs ys : List ℕ) → crcFrom c (xs ++ ys) ≡ crcFrom (crcFrom c xs) ys
 unfolding crcFrom
-crc-append c [] ys = refl
-crc-append c (x ∷ xs) ys = crc-append (byteStep c x) xs ys
+crc-append c xs ys = foldl-append byteStep c xs ys
 
 -- a sum goes on over further bytes
 pub crc-of-append : (s : ℕ) (xs ys : List ℕ) → s ≡ crcOf xs → crcFrom s ys ≡ crcOf (xs ++ ys)
 unfolding crcOf
 crc-of-append s xs ys e = rw e (sym (crc-append start xs ys))
-
--- a turn of the walk takes in the next byte, and past the last one nothing is left
-pub crc-next : (c s : ℕ) (xs : List ℕ) (i : ℕ) → i < length xs → s ≡ byteStep c (getD xs i 0)
-    → crcFrom s (drop (i + 1) xs) ≡ crcFrom c (drop i xs)
-unfolding crcFrom
-crc-next c s xs i h e = rw (e, add-one, drop-cons xs i 0)
-
-pub crc-done : (c : ℕ) (xs : List ℕ) (i : ℕ) → length xs ≤ i → crcFrom c (drop i xs) ≡ c
-unfolding crcFrom
-crc-done c xs i h = rw (drop-of-length-le xs h)
 
 -- the published check: the sum of the ASCII bytes 123456789
 pub check-value : crcOf (49 ∷ 50 ∷ 51 ∷ 52 ∷ 53 ∷ 54 ∷ 55 ∷ 56 ∷ 57 ∷ []) ≡ 0x340B_C6D9

@@ -1,4 +1,5 @@
 pub mod Values
+pub mod Folds
 pub mod Bits
 pub mod Laws
 pub mod Joins

@@ -1,6 +1,6 @@
 use Prim.Native.Nat.{ℕ, zero, suc, _/_, _%_}
 use mathlib.Core.Bool.{cond}
-use mathlib.Core.List.{List, [], _∷_}
+use mathlib.Core.List.{List, foldl}
 use lib.Dec.{eqb}
 use lib.Bits.{bitXor}
 use Rattle.crc.specs.Values.{values}
@@ -28,8 +28,7 @@ byteStep c x = bitSteps 8 (bitXor c x)
 
 -- a running value after the bytes of a list
 unfoldable pub crcFrom : ℕ → List ℕ → ℕ
-crcFrom c [] = c
-crcFrom c (x ∷ xs) = crcFrom (byteStep c x) xs
+crcFrom c xs = foldl byteStep c xs
 
 -- the sum of a list of bytes, without a final complement
 unfoldable pub crcOf : List ℕ → ℕ

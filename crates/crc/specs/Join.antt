@@ -1,7 +1,7 @@
 -- The join: the sum of some bytes and of a block behind them, from their two sums alone. The sum is linear over xor, so it needs no byte.
 use Prim.Native.Nat.{ℕ, zero, suc, _*_, _/_, _%_, _^_}
 use mathlib.Core.Bool.{cond}
-use mathlib.Core.List.{List, [], _∷_, map}
+use mathlib.Core.List.{List, [], _∷_, map, foldl}
 use lib.Dec.{eqb}
 use lib.Bits.{bitXor}
 use Rattle.crc.specs.Values.{values}
@@ -18,8 +18,7 @@ joined before block = bitXor (bitSteps blockBits (bitXor before start)) block
 
 -- a running value after blocks with these sums
 unfoldable pub joinedFrom : ℕ → List ℕ → ℕ
-joinedFrom c [] = c
-joinedFrom c (block ∷ blocks) = joinedFrom (joined c block) blocks
+joinedFrom c blocks = foldl joined c blocks
 
 -- the sum of blocks in a row, from their sums
 unfoldable pub joinedOf : List ℕ → ℕ

@@ -4,8 +4,8 @@ use mathlib.Core.Path.{_≡_, refl, sym, _∙_}
 use native.Mathlib.Omega.{arith}
 use borrow.Author.Needs.{needs}
 use lib.ListN.{length, drop}
-use Rattle.crc.specs.Join.{joinedFrom, joinedOf}
-use Rattle.crc.proofs.Joins.{join-next, join-done}
+use Rattle.crc.specs.Join.{joined, joinedFrom, joinedOf}
+use Rattle.crc.proofs.Folds.{fold-next, fold-done}
 use Rattle.crc.proofs.join_all.Statement.{statement}
 use Rattle.crc.proofs.join_all.Tie as tie
 
@@ -38,12 +38,14 @@ loop-less : tie.Need-loop-less Inv-loop μ-loop
 loop-less c = omega arith
 
 loop-again : tie.Need-loop-again Inv-loop μ-loop
+unfolding joinedFrom
 loop-again c =
     let at = c .before .before .before .before in
-    (omega arith, join-next (at .loop .sum) _ _ (at .loop .i) (omega arith) (c .join-by .ensures) ∙ at .loop .inv .1)
+    (omega arith, fold-next joined (at .loop .sum) _ _ (at .loop .i) (omega arith) (c .join-by .ensures) ∙ at .loop .inv .1)
 
 returns : tie.Need-returns Inv-loop μ-loop
-returns c = sym (join-done _ _ (c .before .loop .i) (omega arith)) ∙ c .before .loop .inv .1
+unfolding joinedFrom
+returns c = sym (fold-done joined _ _ (c .before .loop .i) (omega arith)) ∙ c .before .loop .inv .1
 
 pub join-all-spec : {M : Type 1} → statement M
 join-all-spec =

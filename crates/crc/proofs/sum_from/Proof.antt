@@ -4,8 +4,8 @@ use mathlib.Core.Path.{_≡_, refl, sym, _∙_}
 use native.Mathlib.Omega.{arith}
 use borrow.Author.Needs.{needs}
 use lib.ListN.{length, drop}
-use Rattle.crc.specs.Crc.{crcFrom}
-use Rattle.crc.proofs.Laws.{crc-next, crc-done}
+use Rattle.crc.specs.Crc.{byteStep, crcFrom}
+use Rattle.crc.proofs.Folds.{fold-next, fold-done}
 use Rattle.crc.proofs.sum_from.Statement.{statement}
 use Rattle.crc.proofs.sum_from.Tie as tie
 
@@ -34,12 +34,14 @@ loop-less : tie.Need-loop-less Inv-loop μ-loop
 loop-less c = omega arith
 
 loop-again : tie.Need-loop-again Inv-loop μ-loop
+unfolding crcFrom
 loop-again c =
     let at = c .before .before .before .before in
-    (omega arith, crc-next (at .loop .sum) _ _ (at .loop .i) (omega arith) (c .byte-step .ensures) ∙ at .loop .inv .1)
+    (omega arith, fold-next byteStep (at .loop .sum) _ _ (at .loop .i) (omega arith) (c .byte-step .ensures) ∙ at .loop .inv .1)
 
 returns : tie.Need-returns Inv-loop μ-loop
-returns c = sym (crc-done _ _ (c .before .loop .i) (omega arith)) ∙ c .before .loop .inv .1
+unfolding crcFrom
+returns c = sym (fold-done byteStep _ _ (c .before .loop .i) (omega arith)) ∙ c .before .loop .inv .1
 
 pub sum-from-spec : {M : Type 1} → statement M
 sum-from-spec =

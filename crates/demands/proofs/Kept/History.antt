@@ -19,7 +19,6 @@ use Rattle.session.specs.declared.Board.{Board}
 use Rattle.session.specs.declared.Session.{Session}
 use Rattle.session.proofs.Laws.{inside-facts}
 use Rattle.numbers.specs.Numbers.{wordAt, longAt}
-use Rattle.answers.specs.declared.Outcome.{Outcome}
 use Rattle.answers.specs.Answers.{Leaves, Told}
 use Rattle.answers.specs.Moves.{movedTo, stallOf, unfitOf, faultOf, resetOf}
 use Rattle.jobs.specs.Job.{Place, sumsAfter}
