@@ -15,6 +15,8 @@ const LONG_ENOUGH: Duration = Duration::from_millis(30);
 pub struct Side<'a> {
     name: &'a str,
     turns: Box<dyn FnMut(u32) -> Duration + 'a>,
+    /// How many things of a kind a turn does. What is told is the time of one.
+    things: u32,
 }
 
 impl<'a> Side<'a> {
@@ -31,6 +33,7 @@ impl<'a> Side<'a> {
         Side {
             name,
             turns: Box::new(turns),
+            things: 1,
         }
     }
 
@@ -52,7 +55,13 @@ impl<'a> Side<'a> {
         Side {
             name,
             turns: Box::new(move |count| (0..count).map(|_| turn()).sum()),
+            things: 1,
         }
+    }
+
+    /// The same side, whose turns do so many things of a kind.
+    pub fn of(self, things: u32) -> Side<'a> {
+        Side { things, ..self }
     }
 
     /// How many turns make a repetition that is long enough.
@@ -64,13 +73,13 @@ impl<'a> Side<'a> {
         count
     }
 
-    /// The microseconds that one turn took, over a repetition.
+    /// The microseconds that one thing took, over a repetition.
     fn time(&mut self, count: u32) -> f64 {
-        (self.turns)(count).as_secs_f64() * 1e6 / f64::from(count)
+        (self.turns)(count).as_secs_f64() * 1e6 / f64::from(count) / f64::from(self.things)
     }
 }
 
-/// Ours beside one of theirs, in microseconds for a turn.
+/// Ours beside one of theirs, in microseconds for one thing.
 pub struct Row {
     what: String,
     beside: String,
@@ -103,7 +112,7 @@ impl fmt::Display for Row {
         rounds.sort_by(f64::total_cmp);
         write!(
             out,
-            "{:<25} {:>7} {:>9.0}  {:<30} {:>7} {:>6.2}  {:.2} to {:.2}",
+            "{:<34} {:>7} {:>9.0}  {:<30} {:>7} {:>6.2}  {:.2} to {:.2}",
             self.what,
             figures(ours),
             1e6 / ours,
@@ -171,6 +180,7 @@ mod tests {
                     Duration::from_millis(long) * count
                 }
             }),
+            things: 1,
         };
         let rows = race("nothing", vec![side("ours", 60), side("theirs", 40)]);
         assert_eq!(order.borrow().len(), 2 + 2 * REPETITIONS);
@@ -188,9 +198,13 @@ mod tests {
         let mut side = Side {
             name: "seven",
             turns: Box::new(|count| Duration::from_millis(7) * count),
+            things: 1,
         };
         assert_eq!(side.repetition(), 8);
         assert_eq!(side.time(8), 7_000.0);
+        let mut side = side.of(100);
+        assert_eq!(side.repetition(), 8);
+        assert_eq!(side.time(8), 70.0);
     }
 
     #[test]
