@@ -3,14 +3,15 @@ use mathlib.Core.Path.{_≡_, refl, sym, ap, ap₂, _∙_}
 use mathlib.Core.Bool.{cond}
 use mathlib.Core.List.{List, [], _∷_, _++_}
 use Prim.Native.Nat.{ℕ, zero, suc, _+_, _*_, _/_, _%_, _^_, _≤_, _<_}
-use native.Mathlib.Nat.{add-zero, zero-add, add-suc, suc-add, le-of-suc-le-suc, div-le-self, div-eq-of-lt, lt-of-le-of-lt, mod-lt}
+use native.Mathlib.Nat.{div-le-self, div-eq-of-lt, lt-of-le-of-lt, mod-lt}
 use native.Mathlib.Numerals.{add-one}
 use native.Mathlib.Omega.{arith}
 use lib.Dec.{eqb}
 use lib.ListN.{length, getD, drop, drop-of-length-le}
 use lib.Seq.{drop-cons}
 use lib.Bits.{bitXor, differ, xor-lt, xor-shr, xor-zero-r, shifted-half, shifted-even}
-use Rattle.crc.specs.Crc.{polynomial, start, bitStep, bitSteps, byteStep, crcFrom, crcOf, remaindersFrom, remainders}
+use Rattle.crc.specs.Crc.{polynomial, start, bitStep, bitSteps, byteStep, crcFrom, crcOf, remainders}
+use Rattle.crc.proofs.Values.{values-at}
 use Rattle.crc.proofs.Bits.{of-digits, low-digit, xor-low, xor-half, xor-swap, high-xor-low}
 
 -- bytes in a row are summed one list after the other
@@ -51,7 +52,7 @@ bit-fits c h =
     xor-lt 32 (c / 2) (added (c % 2)) (lt-of-le-of-lt (div-le-self c 2) h)
     (of-digits (λ (d : ℕ). added d < 2 ^ 32) (omega arith) (omega arith) (c % 2) (low-digit c))
 
-bits-fit : (n c : ℕ) → c < 2 ^ 32 → bitSteps n c < 2 ^ 32
+pub bits-fit : (n c : ℕ) → c < 2 ^ 32 → bitSteps n c < 2 ^ 32
 unfolding bitSteps
 bits-fit zero c h = h
 bits-fit (suc n) c h = bits-fit n (bitStep c) (bit-fits c h)
@@ -102,16 +103,9 @@ bits-shifted zero a = omega arith
 bits-shifted (suc k) a = ap (bitSteps k) (bit-shifted a k) ∙ bits-shifted k a
 
 -- each entry of the table is the remainder of its place
-remainder-from : (count n i : ℕ) → i < count → getD (remaindersFrom count n) i 0 ≡ bitSteps 8 (n + i)
-unfolding remaindersFrom
-remainder-from zero n i h = absurd (omega arith)
-remainder-from (suc count) n zero h = ap (bitSteps 8) (sym (add-zero n))
-remainder-from (suc count) n (suc i) h =
-    remainder-from count (suc n) i (le-of-suc-le-suc h) ∙ ap (bitSteps 8) (suc-add n i ∙ sym (add-suc n i))
-
 pub remainder-at : (i : ℕ) → i < 256 → getD remainders i 0 ≡ bitSteps 8 i
 unfolding remainders
-remainder-at i h = remainder-from 256 0 i h ∙ ap (bitSteps 8) (zero-add i)
+remainder-at i h = values-at (bitSteps 8) 256 i h
 
 -- eight bits at once: the low byte picks its remainder
 pub table-step : (c x : ℕ) → x < 256 → byteStep c x ≡ bitXor (c / 256) (getD remainders (bitXor c x % 256) 0)

@@ -1,2 +1,4 @@
+pub mod Values
 pub mod Bits
 pub mod Laws
+pub mod Joins

@@ -3,6 +3,7 @@ use mathlib.Core.Bool.{cond}
 use mathlib.Core.List.{List, [], _∷_}
 use lib.Dec.{eqb}
 use lib.Bits.{bitXor}
+use Rattle.crc.specs.Values.{values}
 
 -- the polynomial of the DFU file suffix, reflected: the lowest bit is that of the highest power
 abbrev pub polynomial : ℕ
@@ -34,11 +35,6 @@ crcFrom c (x ∷ xs) = crcFrom (byteStep c x) xs
 unfoldable pub crcOf : List ℕ → ℕ
 crcOf xs = crcFrom start xs
 
--- the bitwise remainders of so many numbers, from n on
-unfoldable pub remaindersFrom : ℕ → ℕ → List ℕ
-remaindersFrom zero n = []
-remaindersFrom (suc count) n = bitSteps 8 n ∷ remaindersFrom count (suc n)
-
 -- the table: the bitwise remainder of each of the 256 bytes
 unfoldable pub remainders : List ℕ
-remainders = remaindersFrom 256 0
+remainders = values (bitSteps 8) 0 256

@@ -1,2 +1,4 @@
--- What Mullirim's sum of bytes promises.
+-- What Mullirim's sum of bytes promises, and the join of two sums.
+pub mod Values
 pub mod Crc
+pub mod Join

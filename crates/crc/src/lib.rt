@@ -1,7 +1,9 @@
 // The sum of the DFU file suffix: CRC-32, reflected, with no final complement.
 ghost use mathlib.Core.Path.{_≡_};
-ghost use Rattle.crc.specs.Crc.{byteStep, crcFrom, crcOf, remainders};
+ghost use Rattle.crc.specs.Crc.{bitSteps, byteStep, crcFrom, crcOf, remainders};
+ghost use Rattle.crc.specs.Join.{blockBits, blockHalves, joined, joinedOf};
 
+mod halves;
 mod remainders;
 
 // Where a sum starts.
@@ -35,4 +37,47 @@ pub fn sum(bytes: &[u8]) -> u32
     ensures { λ r. ⌜ r ≡ crcOf (now (bytes .entry)) ⌝ }
 {
     sum_from(START, bytes)
+}
+
+// What the bits of a block make of a running value: each of its half bytes picks its part.
+fn past_block(half: &[u32; 128], running: u32) -> u32
+    requires { ⌜ now half ≡ blockHalves ⌝ }
+    ensures { λ r. ⌜ r ≡ bitSteps blockBits running ⌝ }
+{
+    let mut left = running;
+    let mut past = 0u32;
+    for place in 0usize..8 {
+        past = past ^ half[place * 16 + (left % 16) as usize];
+        left = left / 16;
+    }
+    past
+}
+
+fn join_by(half: &[u32; 128], before: u32, block: u32) -> u32
+    requires { ⌜ now half ≡ blockHalves ⌝ }
+    ensures { λ r. ⌜ r ≡ joined before block ⌝ }
+{
+    past_block(half, before ^ START) ^ block
+}
+
+// The sum of some bytes and a block of 1,024 behind them, from the sum of the bytes and that of the block.
+pub fn join(before: u32, block: u32) -> u32
+    ensures { λ r. ⌜ r ≡ joined before block ⌝ }
+{
+    let half = halves::table();
+    join_by(&half, before, block)
+}
+
+// The sum of blocks in a row, from their sums. The table is made once for all of them.
+pub fn join_all(blocks: &[u32]) -> u32
+    ensures { λ r. ⌜ r ≡ joinedOf (now (blocks .entry)) ⌝ }
+{
+    let half = halves::table();
+    let mut sum = START;
+    let mut i = 0;
+    while i < blocks.len() {
+        sum = join_by(&half, sum, blocks[i]);
+        i += 1;
+    }
+    sum
 }

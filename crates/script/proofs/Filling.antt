@@ -6,8 +6,8 @@ use native.Mathlib.Omega.{arith}
 use borrow.Author.Count.{below-more}
 use lib.ListN.{length, getD, set, length-set}
 use lib.Seq.{getD-set-same, getD-set-other}
-use Rattle.sums.specs.Sum.{values}
-use Rattle.sums.proofs.Values.{values-of}
+use Rattle.crc.specs.Values.{values}
+use Rattle.crc.proofs.Values.{values-of}
 
 -- the first i of n places hold their values
 pub record Filled (f : ℕ → ℕ) (n : ℕ) (l : List ℕ) (i : ℕ) : Type 0 where

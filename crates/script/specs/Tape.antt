@@ -5,7 +5,7 @@ use mathlib.Core.List.{List}
 use lib.Dec.{eqb, leb, ltb}
 use lib.ListN.{length, getD, drop}
 use Rattle.flash.specs.Flash.{blockSize}
-use Rattle.sums.specs.Sum.{values}
+use Rattle.crc.specs.Values.{values}
 use Rattle.numbers.specs.Numbers.{wordAt, longAt}
 use Rattle.script.specs.declared.tape.Head.{Head}
 use Rattle.script.specs.declared.tape.Record.{Record}

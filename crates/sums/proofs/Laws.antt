@@ -10,12 +10,14 @@ use native.Mathlib.Omega.{arith}
 use lib.ListN.{length, getD, take, drop, replicate, length-replicate, getD-replicate}
 use lib.Seq.{ext-getD}
 use Rattle.crc.specs.Crc.{crcOf}
+use Rattle.crc.proofs.Values.{values-length, values-at}
 use Rattle.flash.specs.Flash.{startOf, range, spliced}
 use Rattle.flash.proofs.Laws.{spliced-apart}
-use Rattle.sums.specs.Sum.{mostBlocks, blocksOf, among, blockSum, sumFor, freshSums, refreshed, Right, SameBut}
+use Rattle.sums.specs.Sum.{mostBlocks, blocksOf, among, blockSum, sumFor, freshSums, renewed, refreshed, Right, SameBut}
 use Rattle.sums.specs.declared.Sums.{Sums}
-use Rattle.sums.proofs.Values.{values-length, values-at, is-among, not-among}
+use Rattle.sums.proofs.Among.{is-among, not-among}
 use Rattle.sums.proofs.Renewed.{renewed-length, renewed-other, renewed-at}
+use Rattle.sums.proofs.Joined.{joined-whole}
 
 -- where k stands to blocks first to stop − 1
 side : (first stop k : ℕ) → ((first ≤ k) × (k < stop)) ⊎ ((k < first) ⊎ (stop ≤ k))
@@ -56,23 +58,32 @@ right-unique s t f a e r q =
 module _
     (kept : Sums) (f : List ℕ) (a e first stop : ℕ)
     (counted : e ≤ mostBlocks) (low : a ≤ first) (ordered : first ≤ stop) (high : stop ≤ e)
-    (long : length (kept .block) ≡ mostBlocks) where
+    (inside : startOf e ≤ length f) (long : length (kept .block) ≡ mostBlocks) where
+  anew : List ℕ
+  anew = renewed (kept .block) f first (stop - first)
+
   pub refreshed-if :
       ((k : ℕ) → k < mostBlocks → (k < first) ⊎ (stop ≤ k) → getD (kept .block) k 0 ≡ sumFor f a e k)
       → Right (refreshed kept f a e first stop) f a e
-  unfolding refreshed
+  unfolding refreshed anew
   refreshed-if h =
+      let as-long : length anew ≡ mostBlocks = renewed-length (stop - first) (kept .block) f first ∙ long in
+      let each : (k : ℕ) → k < mostBlocks → getD anew k 0 ≡ sumFor f a e k =
+      λ k lt.
+      ⊎-elim
+      (λ i.
+      renewed-at (stop - first) (kept .block) f first k (i .0) (omega arith) (omega arith)
+      ∙ sym (sum-inside f a e k (omega arith) (omega arith)))
+      (λ o.
+      renewed-other (stop - first) (kept .block) f first k (⊎-elim (λ l. inl l) (λ g. inr (omega arith)) o) ∙ h k lt o)
+      (side first stop k)
+      in
       record {
-        long = renewed-length (stop - first) (kept .block) f first ∙ long;
-        each = λ k lt.
-            ⊎-elim
-            (λ i.
-            renewed-at (stop - first) (kept .block) f first k (i .0) (omega arith) (omega arith)
-            ∙ sym (sum-inside f a e k (omega arith) (omega arith)))
-            (λ o.
-            renewed-other (stop - first) (kept .block) f first k (⊎-elim (λ l. inl l) (λ g. inr (omega arith)) o) ∙ h k lt o)
-            (side first stop k);
-        whole = refl;
+        long = as-long;
+        each = each;
+        whole =
+            joined-whole f anew a e (omega arith) inside (omega (arith, as-long))
+            (λ k lo hi. each k (omega arith) ∙ sum-inside f a e k lo hi);
       }
 
 -- the sums of two flashes that differ in some blocks alone
@@ -82,20 +93,20 @@ same-sum f g a e first stop k s o = ap (λ (l : List ℕ). cond (among a e k) (c
 
 pub refreshed-right :
     (kept : Sums) (f g : List ℕ) (a e first stop : ℕ) → e ≤ mostBlocks → a ≤ first → first ≤ stop → stop ≤ e
-    → Right kept f a e → SameBut f g first stop → Right (refreshed kept g a e first stop) g a e
-refreshed-right kept f g a e first stop counted low ordered high r s =
-    refreshed-if kept g a e first stop counted low ordered high (r .long) (λ k lt o. r .each k lt ∙ same-sum f g a e first stop k s o)
+    → startOf e ≤ length g → Right kept f a e → SameBut f g first stop → Right (refreshed kept g a e first stop) g a e
+refreshed-right kept f g a e first stop counted low ordered high inside r s =
+    refreshed-if kept g a e first stop counted low ordered high inside (r .long) (λ k lt o. r .each k lt ∙ same-sum f g a e first stop k s o)
 
 -- with nothing kept, a refresh of all application blocks gives the fresh sums
 pub fresh-from-none :
     (none : Sums) (f : List ℕ) (a e : ℕ) → none .block ≡ replicate mostBlocks 0 → a ≤ e → e ≤ mostBlocks
-    → refreshed none f a e a e ≡ freshSums f a e
-fresh-from-none none f a e z ordered counted =
+    → startOf e ≤ length f → refreshed none f a e a e ≡ freshSums f a e
+fresh-from-none none f a e z ordered counted inside =
     let zero-at : (k : ℕ) → k < mostBlocks → getD (none .block) k 0 ≡ 0 =
     λ k lt. ap (λ (l : List ℕ). getD l k 0) z ∙ getD-replicate mostBlocks k 0 0 lt
     in
     right-unique (refreshed none f a e a e) (freshSums f a e) f a e
-    (refreshed-if none f a e a e counted (omega arith) ordered (omega arith) (ap length z ∙ length-replicate {A = ℕ} mostBlocks 0)
+    (refreshed-if none f a e a e counted (omega arith) ordered (omega arith) inside (ap length z ∙ length-replicate {A = ℕ} mostBlocks 0)
     (λ k lt o. zero-at k lt ∙ sym (sum-outside f a e k o)))
     (fresh-right f a e)
 

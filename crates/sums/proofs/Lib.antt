@@ -1,4 +1,5 @@
 -- Laws of the kept sums.
-pub mod Values
+pub mod Among
 pub mod Renewed
+pub mod Joined
 pub mod Laws

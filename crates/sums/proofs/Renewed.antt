@@ -2,12 +2,13 @@
 use Prim.Native.Nat.{ℕ, zero, suc, _+_, _-_, _≤_, _<_}
 use mathlib.Core.List.{List}
 use mathlib.Core.Logic.{_⊎_, inl, inr, ⊎-elim}
-use mathlib.Core.Path.{_≡_, refl, sym, ap, _∙_}
+use mathlib.Core.Path.{_≡_, refl, sym, ap, ap₂, _∙_}
 use native.Mathlib.Decide.{ℕ-discrete}
 use native.Mathlib.Omega.{arith}
 use lib.ListN.{length, getD, set, length-set}
 use lib.Seq.{getD-set-same, getD-set-other}
-use Rattle.sums.specs.Sum.{blockSum, renewed}
+use Rattle.sums.specs.Sum.{blockSum, joinedSum, renewed, refreshed}
+use Rattle.sums.specs.declared.Sums.{Sums}
 
 pub renewed-length : (n : ℕ) (l f : List ℕ) (k : ℕ) → length (renewed l f k n) ≡ length l
 unfolding renewed
@@ -49,3 +50,11 @@ renewed-turn l f k high v lt e =
 pub renewed-done : (l f : List ℕ) (k high : ℕ) → high ≤ k → renewed l f k (high - k) ≡ l
 unfolding renewed
 renewed-done l f k high le = let z : high - k ≡ 0 = omega arith in ap (renewed l f k) z
+
+-- behind the loop: what has the block sums anew and the whole joined from them is refreshed
+pub refreshed-by :
+    (kept : Sums) (f : List ℕ) (a e first stop : ℕ) {block : List ℕ} {whole : ℕ} → block ≡ renewed (kept .block) f first (stop - first)
+    → whole ≡ joinedSum block a e → record { block = block; whole = whole } ≡ refreshed kept f a e first stop
+unfolding refreshed
+refreshed-by kept f a e first stop b w =
+    ap₂ {C = Sums} (λ (l : List ℕ) (n : ℕ). record { block = l; whole = n }) b (w ∙ ap (λ (l : List ℕ). joinedSum l a e) b)

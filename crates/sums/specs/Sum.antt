@@ -2,12 +2,14 @@
 -- whole, from its lowest address up. The application is blocks a to e − 1.
 use Prim.Native.Nat.{ℕ, zero, suc, _+_, _-_, _≤_, _<_}
 use mathlib.Core.Bool.{Bool, cond, _&&_}
-use mathlib.Core.List.{List, [], _∷_}
+use mathlib.Core.List.{List}
 use mathlib.Core.Logic.{_⊎_}
 use mathlib.Core.Path.{_≡_}
 use lib.Dec.{leb, ltb}
-use lib.ListN.{length, getD, set}
+use lib.ListN.{length, getD, set, take, drop}
+use Rattle.crc.specs.Values.{values}
 use Rattle.crc.specs.Crc.{crcOf}
+use Rattle.crc.specs.Join.{joinedOf}
 use Rattle.flash.specs.Flash.{startOf, range}
 use Rattle.sums.specs.declared.Sums.{Sums}
 
@@ -35,10 +37,9 @@ sumFor flash a e k = cond (among a e k) (blockSum flash k) 0
 unfoldable pub wholeSum : List ℕ → ℕ → ℕ → ℕ
 wholeSum flash a e = crcOf (blocksOf flash a e)
 
--- n values of a function, from k on
-unfoldable pub values : (ℕ → ℕ) → ℕ → ℕ → List ℕ
-values f k zero = []
-values f k (suc n) = f k ∷ values f (k + 1) n
+-- the same from the sums of the blocks, kept by block number
+unfoldable pub joinedSum : List ℕ → ℕ → ℕ → ℕ
+joinedSum block a e = joinedOf (take (e - a) (drop a block))
 
 -- the sums worked out afresh
 unfoldable pub freshSums : List ℕ → ℕ → ℕ → Sums
@@ -49,9 +50,11 @@ unfoldable pub renewed : List ℕ → List ℕ → ℕ → ℕ → List ℕ
 renewed kept flash k zero = kept
 renewed kept flash k (suc n) = renewed (set kept k (blockSum flash k)) flash (k + 1) n
 
--- the sums after blocks first to stop − 1 changed: those anew, the others as kept, the whole anew
+-- the sums after blocks first to stop − 1 changed: those anew, the others as kept, and the whole joined from these
 unfoldable pub refreshed : Sums → List ℕ → ℕ → ℕ → ℕ → ℕ → Sums
-refreshed kept flash a e first stop = record { block = renewed (kept .block) flash first (stop - first); whole = wholeSum flash a e }
+refreshed kept flash a e first stop =
+    let block : List ℕ = renewed (kept .block) flash first (stop - first) in
+    record { block = block; whole = joinedSum block a e }
 
 -- an application that lies in flash, with 32-bit addresses
 pub record Split (flash : List ℕ) (a e : ℕ) : Type 0 where

@@ -4,7 +4,7 @@ use flash::Block;
 ghost use Prim.Native.Nat.{_≤_};
 ghost use mathlib.Core.Path.{_≡_};
 ghost use Rattle.crc.specs.Crc.{crcOf};
-ghost use Rattle.sums.specs.Sum.{blocksOf, freshSums, refreshed, Split};
+ghost use Rattle.sums.specs.Sum.{blocksOf, freshSums, joinedSum, mostBlocks, refreshed, Split};
 
 // The most blocks that a flash may have: the one place in code that says so.
 pub const MOST: usize = 256;
@@ -25,7 +25,18 @@ fn sum_of(flash: &[u8], first: Block, stop: Block) -> u32
     crc::sum(&flash[from..to])
 }
 
-// The sums after blocks `first` to the one before `stop` changed.
+// The sum of the application, from the sums of its blocks. No byte is read.
+fn whole_of(block: &[u32; MOST], a: Block, e: Block) -> u32
+    requires { ⌜ (a .0 ≤ e .0) × (e .0 ≤ mostBlocks) ⌝ }
+    ensures { λ r. ⌜ r ≡ joinedSum (now (block .entry)) (a .0) (e .0) ⌝ }
+{
+    let from = a.0 as usize;
+    let to = e.0 as usize;
+    let all = &block[..];
+    crc::join_all(&all[from..to])
+}
+
+// The sums after blocks `first` to the one before `stop` changed. Those alone are read.
 pub fn refresh(kept: Sums, flash: &[u8], a: Block, e: Block, first: Block, stop: Block) -> Sums
     requires { ⌜ Split (now flash) (a .0) (e .0) ⌝ }
     requires { ⌜ (first .0 ≤ stop .0) × (stop .0 ≤ e .0) ⌝ }
@@ -38,7 +49,7 @@ pub fn refresh(kept: Sums, flash: &[u8], a: Block, e: Block, first: Block, stop:
         let i = k as usize;
         sums.block[i] = sum_of(flash, Block(k), Block(k + 1));
     }
-    sums.whole = sum_of(flash, a, e);
+    sums.whole = whole_of(&sums.block, a, e);
     sums
 }
 

@@ -9,7 +9,7 @@ use borrow.Author.Tests.{eqb-true, eqb-false}
 use lib.Dec.{eqb}
 use lib.ListN.{length, drop}
 use Rattle.flash.specs.Flash.{startOf, holderOf, nextStart, range, spliced, blank, erased}
-use Rattle.flash.proofs.Laws.{spliced-back, length-blank}
+use Rattle.flash.proofs.Laws.{spliced-back, spliced-length, length-blank}
 use Rattle.sums.specs.Sum.{refreshed, Right}
 use Rattle.sums.specs.declared.Sums.{Sums}
 use Rattle.sums.proofs.Laws.{fresh-right, refreshed-right, spliced-same}
@@ -63,8 +63,9 @@ module _ (s : Session) (f : List ℕ) (r : Ready s f) (right : Summed s f) where
       subst (λ (x : List ℕ). Summed s x) (sym (empty-spliced f at bytes (omega arith) (eqb-true _ _ e))) right)
       (λ n.
       let some : length bytes ≡ 0 → ⊥ = eqb-false _ _ n in
+      let long = spliced-length f at bytes (w .inside) in
       refreshed-right (s .sums) f g (s .board .a .0) (appEnd (s .board)) (holderOf at) (nextStart (at + length bytes))
-      (omega arith) (omega arith) (omega arith) (omega arith) right
+      (omega arith) (omega arith) (omega arith) (omega arith) (omega (arith, long)) right
       (spliced-same f at bytes (holderOf at) (nextStart (at + length bytes)) (w .inside) (omega arith) (omega arith)))
 
   erased-right :
@@ -77,8 +78,9 @@ module _ (s : Session) (f : List ℕ) (r : Ready s f) (right : Summed s f) where
       let w = ready-range s f r block (startOf count) i in
       let split = ready-split s f r in
       let n = length-blank (startOf count) in
+      let long = spliced-length f (startOf block) (blank (startOf count)) (omega arith) in
       refreshed-right (s .sums) f (spliced f (startOf block) (blank (startOf count))) (s .board .a .0) (appEnd (s .board)) block
-      (block + count) (omega arith) (omega arith) (omega arith) (omega arith) right
+      (block + count) (omega arith) (omega arith) (omega arith) (omega arith) (omega (arith, long)) right
       (spliced-same f (startOf block) (blank (startOf count)) block (block + count) (omega arith) (omega arith) (omega arith))
 
 -- no call changes the board

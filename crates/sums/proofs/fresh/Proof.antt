@@ -10,7 +10,7 @@ refresh-requires : tie.Need-refresh-requires
 refresh-requires c κs = search needs
 
 returns : tie.Need-returns
-returns c = c .refresh .ensures ∙ fresh-from-none _ _ _ _ refl (omega arith) (omega arith)
+returns c = c .refresh .ensures ∙ fresh-from-none _ _ _ _ refl (omega arith) (omega arith) (omega arith)
 
 pub fresh-spec : {M : Type 1} → statement M
 fresh-spec = tie.close (tie.spec refresh-requires returns)

@@ -1,11 +1,9 @@
 -- The loop keeps that making the rest anew gives what making all anew gives (Renewed). Assumes nothing.
-use mathlib.Core.Path.{_≡_, refl, sym, ap₂, _∙_}
-use mathlib.Core.List.{List}
-use Prim.Native.Nat.{ℕ}
+use mathlib.Core.Path.{_≡_, refl, sym, _∙_}
 use Prim.Native.Nat.{_-_, _≤_}
 use native.Mathlib.Omega.{arith}
-use Rattle.sums.specs.Sum.{renewed, refreshed, blockSum, wholeSum}
-use Rattle.sums.proofs.Renewed.{renewed-turn, renewed-done}
+use Rattle.sums.specs.Sum.{renewed, blockSum}
+use Rattle.sums.proofs.Renewed.{renewed-turn, renewed-done, refreshed-by}
 use Rattle.sums.proofs.refresh.Statement.{statement}
 use Rattle.sums.proofs.refresh.Tie as tie
 
@@ -48,16 +46,14 @@ loop-again c =
     let l = c .before .before .loop in
     (omega arith, omega arith, renewed-turn _ _ (l .k) _ _ (c .before .loop-test .taken) (c .sum-of .ensures) ∙ l .inv .2)
 
-sum-of-requires-2 : tie.Need-sum-of-requires-2 Inv-loop μ-loop
-sum-of-requires-2 c κs = record { ordered = omega arith; counted = omega arith; inside = omega arith }
+whole-of-requires : tie.Need-whole-of-requires Inv-loop μ-loop
+whole-of-requires c κs = (omega arith, omega arith)
 
 returns : tie.Need-returns Inv-loop μ-loop
-unfolding refreshed wholeSum
 returns c =
-    let l = c .before .before .loop in
-    ap₂ (λ (b : List ℕ) (w : ℕ). record { block = b; whole = w })
-    (sym (renewed-done (l .sums .block) _ (l .k) _ (c .before .loop-test .left)) ∙ l .inv .2)
-    (c .sum-of2 .ensures)
+    let all = c .before .before .before in
+    let l = all .before .loop in
+    refreshed-by _ _ _ _ _ _ (sym (renewed-done (l .sums .block) _ (l .k) _ (all .loop-test .left)) ∙ l .inv .2) (c .whole-of .ensures)
 
 pub refresh-spec : {M : Type 1} → statement M
 refresh-spec =
@@ -74,5 +70,5 @@ refresh-spec =
     add-k
     loop-less
     loop-again
-    sum-of-requires-2
+    whole-of-requires
     returns)

@@ -1,16 +1,12 @@
--- The list of a function's values, by its elements; and which block numbers are among some. Assumes nothing.
-use Prim.Native.Nat.{ℕ, zero, suc, _+_, _≤_, _<_}
-use mathlib.Core.Bool.{Bool, true, false, _&&_, and-false}
-use mathlib.Core.List.{List}
-use mathlib.Core.Logic.{_⊎_, ⊎-elim}
-use mathlib.Core.Path.{_≡_, refl, sym, ap, _∙_}
+-- The list of a function's values, by its elements. Assumes nothing.
+use Prim.Native.Nat.{ℕ, zero, suc, _+_, _<_}
+use mathlib.Core.List.{List, _∷_, map}
+use mathlib.Core.Path.{_≡_, refl, sym, ap, ap₂, _∙_}
 use native.Mathlib.Nat.{not-suc-le-zero, le-of-suc-le-suc}
 use native.Mathlib.Omega.{arith}
-use borrow.Author.Tests.{lt-ltb, le-ltb, le-leb, lt-leb}
-use lib.Dec.{leb, ltb}
 use lib.ListN.{length, getD}
 use lib.Seq.{ext-getD}
-use Rattle.sums.specs.Sum.{values, among}
+use Rattle.crc.specs.Values.{values}
 
 pub values-length : (f : ℕ → ℕ) (k n : ℕ) → length (values f k n) ≡ n
 unfolding values
@@ -37,11 +33,8 @@ values-of f n l e h =
 pub values-same : (f g : ℕ → ℕ) (n : ℕ) → ((i : ℕ) → i < n → f i ≡ g i) → values f 0 n ≡ values g 0 n
 values-same f g n h = values-of g n (values f 0 n) (values-length f 0 n) (λ i lt. values-at f n i lt ∙ h i lt)
 
-pub is-among : (first stop k : ℕ) → first ≤ k → k < stop → among first stop k ≡ true
-is-among first stop k lo hi = ap (λ (b : Bool). b && ltb k stop) (le-leb first k lo) ∙ lt-ltb k stop hi
-
-pub not-among : (first stop k : ℕ) → (k < first) ⊎ (stop ≤ k) → among first stop k ≡ false
-not-among first stop k =
-    ⊎-elim
-    (λ lt. ap (λ (b : Bool). b && ltb k stop) (lt-leb first k lt))
-    (λ le. ap (λ (b : Bool). leb first k && b) (le-ltb k stop le) ∙ and-false (leb first k))
+-- a function of each value
+pub map-values : (g f : ℕ → ℕ) (k n : ℕ) → map g (values f k n) ≡ values (λ i. g (f i)) k n
+unfolding values
+map-values g f k zero = refl
+map-values g f k (suc n) = ap (λ (l : List ℕ). g (f k) ∷ l) (map-values g f (k + 1) n)
