@@ -112,15 +112,15 @@ impl fmt::Display for Row {
         rounds.sort_by(f64::total_cmp);
         write!(
             out,
-            "{:<34} {:>7} {:>9.0}  {:<30} {:>7} {:>6.2}  {:.2} to {:.2}",
+            "{:<34} {:>7} {:>9.0}  {:<30} {:>7} {:>6}  {} to {}",
             self.what,
             figures(ours),
             1e6 / ours,
             self.beside,
             figures(theirs),
-            ours / theirs,
-            rounds[0],
-            rounds[rounds.len() - 1]
+            ratio(ours / theirs),
+            ratio(rounds[0]),
+            ratio(rounds[rounds.len() - 1])
         )
     }
 }
@@ -129,6 +129,12 @@ impl fmt::Display for Row {
 fn figures(number: f64) -> String {
     let decimals = 2 - number.log10().floor() as i32;
     format!("{number:.*}", decimals.max(0) as usize)
+}
+
+/// Two decimals, or four where so few would leave next to nothing.
+fn ratio(number: f64) -> String {
+    let decimals = [2, 4][usize::from(number < 0.1)];
+    format!("{number:.decimals$}")
 }
 
 fn ratios(ours: &[f64], theirs: &[f64]) -> Vec<f64> {
@@ -166,6 +172,12 @@ mod tests {
         assert_eq!(figures(0.031_24), "0.0312");
         assert_eq!(figures(2.784), "2.78");
         assert_eq!(figures(6_784.4), "6784");
+    }
+
+    #[test]
+    fn small_ratios_are_told_apart() {
+        assert_eq!([ratio(0.1), ratio(12.345)], ["0.10", "12.35"]);
+        assert_eq!([ratio(0.0059), ratio(0.07)], ["0.0059", "0.0700"]);
     }
 
     #[test]
