@@ -16,7 +16,7 @@ pub const SMALL: u32 = (1 << 16) / BLOCK;
 /// Every B from 2 to the most of a small flash with every A below it.
 pub const SMALL_SPLITS: u64 = (SMALL * (SMALL - 1) / 2) as u64;
 /// Of so many histories in a row the last has a large flash. There are too many
-/// splits of these to meet each, and a call that sums one takes long.
+/// splits of these to meet each, and a start that sums one takes long.
 const ROUND: u64 = 4;
 /// The splits of the first large flashes, each for a tame history and a wild one.
 const BORDERS: [(u32, u32); 11] = [
@@ -434,6 +434,49 @@ mod tests {
             let flash = &history.flash[..(kept.b * BLOCK) as usize];
             let (_, anew) = start(flash, kept.a, kept.b, 0, 0);
             assert_eq!((kept.sums, kept.whole), (anew.sums, anew.whole));
+        }
+    }
+
+    /// What a DNLOAD of this data stores to, of an application of blocks 2 to 4
+    /// whose last two are erased. `left` are the bytes of a download that awaits
+    /// the next at address 3,672.
+    fn stored(left: Option<u32>, data: &[u8]) -> Option<Range<usize>> {
+        let mut flash = [vec![0xA5; 3_072], vec![ERASED; 2_048]].concat();
+        let (_, mut session) = start(&flash, 2, 5, 0, 0);
+        if let Some(left) = left {
+            session.state = state::DOWN_IDLE;
+            (session.down_place, session.down_left) = (3_672, left);
+        }
+        let length = (data.len() as u16).to_le_bytes();
+        let call = Call {
+            session,
+            lent: flash.len(),
+            setup: [&[0x21, 1, 0, 0, 0, 0][..], &length].concat(),
+            data: data.to_vec(),
+            room: TRANSFER,
+        };
+        let reply = &mut [0; TRANSFER];
+        let outcome = step(&call.session, &mut flash, &call.setup, &call.data, reply);
+        call.stored(&outcome)
+    }
+
+    #[test]
+    fn a_call_tells_where_it_stored() {
+        let prog = [1, 0, 3, 0, 0xDC, 5, 0, 0];
+        let with_data = [&prog[..], &[7; 600]].concat();
+        assert_eq!(stored(None, &[4, 0, 3, 0, 2, 0, 9, 9]), Some(3_072..5_120));
+        assert_eq!(stored(None, &with_data), Some(3_072..3_672));
+        assert_eq!(stored(Some(900), &[8; 900]), Some(3_672..4_572));
+        assert_eq!(stored(Some(900), &[4; 8]), Some(3_672..3_680));
+        for nothing in [
+            &prog[..],
+            &[4, 0, 1, 0, 2, 0, 0, 0],
+            &[3, 0, 4, 0, 1, 0, 0, 0],
+        ] {
+            assert_eq!(stored(None, nothing), None);
+        }
+        for (left, piece) in [(900, &[][..]), (899, &[8; 900]), (0, &[])] {
+            assert_eq!(stored(Some(left), piece), None);
         }
     }
 
