@@ -14,7 +14,7 @@ use lib.Pow.{pow-pos, pow-mono, pow-lt, pow-add, shl-lt, shr-lt}
 use lib.Bits.{bitXor, xor-comm, xor-self, xor-zero-l, xor-zero-r, xor-shifted}
 use Rattle.crc.specs.Values.{values}
 use Rattle.crc.specs.Crc.{start, bitStep, bitSteps, byteStep, crcFrom, crcOf}
-use Rattle.crc.specs.Join.{blockBits, joined, joinedFrom, through, squared, columnsOf, halves, blockHalves}
+use Rattle.crc.specs.Join.{blockBits, joined, joinedFrom, squarings, through, squared, columnsOf, halves, blockHalves}
 use Rattle.crc.proofs.Values.{values-at, values-same, map-values}
 use Rattle.crc.proofs.Bits.{of-digits, low-digit, xor-assoc}
 use Rattle.crc.proofs.Laws.{bits-fit, bits-xor}
@@ -122,8 +122,8 @@ half-at place d near few =
     let x : ℕ = d * 2 ^ (place * 4) in
     let narrow : 4 + place * 4 ≤ 32 = omega arith in
     values-at _ 128 (place * 16 + d) (omega arith)
-    ∙ ap₂ (λ (m n : ℕ). through (columnsOf 13) (m * 2 ^ (n * 4))) (digits-mod place few) (digits-div place few)
-    ∙ ap (λ (columns : List ℕ). through columns x) (columns-are 13)
+    ∙ ap₂ (λ (m n : ℕ). through (columnsOf squarings) (m * 2 ^ (n * 4))) (digits-mod place few) (digits-div place few)
+    ∙ ap (λ (columns : List ℕ). through columns x) (columns-are squarings)
     ∙ through-steps blockBits 32 0 x (lt-of-lt-of-le (shl-lt 4 (place * 4) few) (pow-mono narrow))
     ∙ ap (bitSteps blockBits) (mul-one x)
 

@@ -27,6 +27,9 @@ joinedOf blocks = joinedFrom start blocks
 
 -- ---- the bits of a block in thirteen squarings, where bit by bit they are 8,192 steps
 
+abbrev pub squarings : ℕ
+squarings = 13
+
 -- what a list of columns makes of a number: the xor of those whose bit is set, the lowest bit's first
 unfoldable pub through : List ℕ → ℕ → ℕ
 through [] n = 0
@@ -47,4 +50,4 @@ halves columns = values (λ i. through columns (i % 16 * 2 ^ (i / 16 * 4))) 0 12
 
 -- the table of the join
 unfoldable pub blockHalves : List ℕ
-blockHalves = halves (columnsOf 13)
+blockHalves = halves (columnsOf squarings)

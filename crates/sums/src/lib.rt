@@ -1,10 +1,10 @@
 // The kept sums of a flash: one for each application block and one over the whole application, made fresh and refreshed
 // after blocks changed. The application is given by its first block and the block after its last.
 use flash::Block;
-ghost use Prim.Native.Nat.{_≤_};
+ghost use Prim.Native.Nat.{_-_, _≤_};
 ghost use mathlib.Core.Path.{_≡_};
 ghost use Rattle.crc.specs.Crc.{crcOf};
-ghost use Rattle.sums.specs.Sum.{blocksOf, freshSums, joinedSum, mostBlocks, refreshed, Split};
+ghost use Rattle.sums.specs.Sum.{blocksOf, freshSums, joinedSum, mostBlocks, refreshed, renewed, Split};
 
 // The most blocks that a flash may have: the one place in code that says so.
 pub const MOST: usize = 256;
@@ -25,6 +25,19 @@ fn sum_of(flash: &[u8], first: Block, stop: Block) -> u32
     crc::sum(&flash[from..to])
 }
 
+// The sums of blocks `first` to the one before `stop` anew, in place. Those blocks alone are read.
+fn renew(block: &mut [u32; MOST], flash: &[u8], first: Block, stop: Block)
+    requires { ⌜ Split (now flash) (first .0) (stop .0) ⌝ }
+    ensures { λ r. ⌜ now (block .exit) ≡ renewed (now (block .entry)) (now (flash .entry)) (first .0) (stop .0 - first .0) ⌝ }
+{
+    let low = first.0;
+    let high = stop.0;
+    for k in low..high {
+        let i = k as usize;
+        block[i] = sum_of(flash, Block(k), Block(k + 1));
+    }
+}
+
 // The sum of the application, from the sums of its blocks. No byte is read.
 fn whole_of(block: &[u32; MOST], a: Block, e: Block) -> u32
     requires { ⌜ (a .0 ≤ e .0) × (e .0 ≤ mostBlocks) ⌝ }
@@ -36,31 +49,29 @@ fn whole_of(block: &[u32; MOST], a: Block, e: Block) -> u32
     crc::join_all(&all[from..to])
 }
 
-// The sums after blocks `first` to the one before `stop` changed. Those alone are read.
+// The sums after blocks `first` to the one before `stop` changed.
 pub fn refresh(kept: Sums, flash: &[u8], a: Block, e: Block, first: Block, stop: Block) -> Sums
     requires { ⌜ Split (now flash) (a .0) (e .0) ⌝ }
     requires { ⌜ (first .0 ≤ stop .0) × (stop .0 ≤ e .0) ⌝ }
     ensures { λ r. ⌜ r ≡ refreshed kept (now (flash .entry)) (a .0) (e .0) (first .0) (stop .0) ⌝ }
 {
     let mut sums = kept;
-    let low = first.0;
-    let high = stop.0;
-    for k in low..high {
-        let i = k as usize;
-        sums.block[i] = sum_of(flash, Block(k), Block(k + 1));
-    }
+    renew(&mut sums.block, flash, first, stop);
     sums.whole = whole_of(&sums.block, a, e);
     sums
 }
 
-// The sums of a flash, with nothing kept.
+// The sums of a flash, with nothing kept. Like a refresh of zeros, and not by one: with two callers each, the compiler leaves `renew` and
+// `whole_of` calls of their own, whose tables then take stack one after the other and not beside a copy of the sums.
 pub fn fresh(flash: &[u8], a: Block, e: Block) -> Sums
     requires { ⌜ Split (now flash) (a .0) (e .0) ⌝ }
     ensures { λ r. ⌜ r ≡ freshSums (now (flash .entry)) (a .0) (e .0) ⌝ }
 {
-    let none = Sums {
+    let mut fresh = Sums {
         block: [0u32; MOST],
         whole: 0,
     };
-    refresh(none, flash, a, e, a, e)
+    renew(&mut fresh.block, flash, a, e);
+    fresh.whole = whole_of(&fresh.block, a, e);
+    fresh
 }
