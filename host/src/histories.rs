@@ -5,8 +5,10 @@
 use crate::dice::Dice;
 use crate::lone;
 use crate::requests::{any_request, choose};
-use crate::second::{answer, start, step, Outcome, Session, BLOCK, ERASED, MOST_BLOCKS, TRANSFER};
+use crate::second::{answer, command, start, state, step, sum};
+use crate::second::{Outcome, Session, BLOCK, ERASED, MOST_BLOCKS, TRANSFER};
 use crate::sessions;
+use std::ops::Range;
 
 const MOST: u32 = MOST_BLOCKS as u32;
 /// A flash is small as long as each of its bytes has an address of 16 bits.
@@ -14,7 +16,7 @@ pub const SMALL: u32 = (1 << 16) / BLOCK;
 /// Every B from 2 to the most of a small flash with every A below it.
 pub const SMALL_SPLITS: u64 = (SMALL * (SMALL - 1) / 2) as u64;
 /// Of so many histories in a row the last has a large flash. There are too many
-/// splits of these to meet each, and a call that sums one takes long.
+/// splits of these to meet each, and a start that sums one takes long.
 const ROUND: u64 = 4;
 /// The splits of the first large flashes, each for a tame history and a wild one.
 const BORDERS: [(u32, u32); 11] = [
@@ -55,8 +57,31 @@ pub struct Call {
     pub room: usize,
 }
 
+impl Call {
+    /// The bytes of flash that the call stored to, by what came of it; nothing
+    /// where it stored none.
+    pub fn stored(&self, outcome: &Outcome) -> Option<Range<usize>> {
+        let dnload = self.setup.starts_with(&[0x21, 1]);
+        if !dnload || outcome.answer != answer::TAKEN {
+            return None;
+        }
+        let two = |at: usize| u32::from(self.data[at]) | u32::from(self.data[at + 1]) << 8;
+        // The next session awaits the byte behind the last one written.
+        let next = outcome.session.down_place;
+        let places = match (self.session.state, self.data.first()) {
+            (state::DOWN_IDLE, _) => self.session.down_place..next,
+            (_, Some(&command::PROG)) => two(2) * BLOCK..next,
+            (_, Some(&command::ERASE)) => two(2) * BLOCK..(two(2) + two(4)) * BLOCK,
+            _ => return None,
+        };
+        (!places.is_empty()).then_some(places.start as usize..places.end as usize)
+    }
+}
+
 pub struct History {
     dice: Dice,
+    /// For the sums alone: what is asked doesn't hang on which of them are wrong.
+    sums_dice: Dice,
     /// How many histories of its kind, with a small or a large flash, went
     /// before.
     pub turn: u64,
@@ -66,6 +91,8 @@ pub struct History {
     b: u32,
     pub length: u32,
     pub flash: Vec<u8>,
+    /// The sum of each block of the flash as it is.
+    pub right: Vec<u32>,
     pub session: Session,
 }
 
@@ -90,6 +117,8 @@ impl History {
                 true => 50 + dice.below(101),
                 false => 80 + dice.below(181),
             },
+            sums_dice: Dice::new(!seed.rotate_left(32) ^ number),
+            right: flash.chunks(BLOCK as usize).map(sum).collect(),
             flash,
             session: Session {
                 a,
@@ -178,15 +207,21 @@ impl History {
     }
 
     /// The next call. It is lent the session that the last one left, unless
-    /// the history is a wild one.
+    /// the history is a wild one. There, where bytes may be stored, its sums are
+    /// often right or nearly so: after a session with any sums at all they would
+    /// hardly become so again.
     pub fn call(&mut self) -> Call {
-        let session = self.lent_session();
+        let mut session = self.lent_session();
         let lent = self.lent_flash(&session);
         let dice = &mut self.dice;
-        let (setup, data) = match session.fits() && lent == (session.b * BLOCK) as usize {
+        let fits = session.fits() && lent == (session.b * BLOCK) as usize;
+        let (setup, data) = match fits {
             true => choose(dice, &session, &self.flash[..lent]),
             false => any_request(dice),
         };
+        if self.wild && fits && !data.is_empty() && self.sums_dice.below(4) > 0 {
+            sessions::sum_nearly(&mut self.sums_dice, &mut session, &self.right);
+        }
         let room = match dice.below(48) {
             0 => [0, 1, 1_000, 1_023][dice.below(4) as usize],
             1 => [1_025, 1_026, 2_047, REPLY_ROOM][dice.below(4) as usize],
@@ -255,7 +290,18 @@ impl History {
             self.session = outcome.session.clone();
             self.b = outcome.session.b;
         }
+        if let Some(places) = call.stored(&outcome) {
+            self.sum_again(places);
+        }
         outcome
+    }
+
+    /// The sums of the blocks in which these bytes changed.
+    fn sum_again(&mut self, places: Range<usize>) {
+        let size = BLOCK as usize;
+        for block in places.start / size..places.end.div_ceil(size) {
+            self.right[block] = sum(&self.flash[block * size..(block + 1) * size]);
+        }
     }
 }
 
@@ -388,6 +434,59 @@ mod tests {
             let flash = &history.flash[..(kept.b * BLOCK) as usize];
             let (_, anew) = start(flash, kept.a, kept.b, 0, 0);
             assert_eq!((kept.sums, kept.whole), (anew.sums, anew.whole));
+        }
+    }
+
+    /// What a DNLOAD of this data stores to, of an application of blocks 2 to 4
+    /// whose last two are erased. `left` are the bytes of a download that awaits
+    /// the next at address 3,672.
+    fn stored(left: Option<u32>, data: &[u8]) -> Option<Range<usize>> {
+        let mut flash = [vec![0xA5; 3_072], vec![ERASED; 2_048]].concat();
+        let (_, mut session) = start(&flash, 2, 5, 0, 0);
+        if let Some(left) = left {
+            session.state = state::DOWN_IDLE;
+            (session.down_place, session.down_left) = (3_672, left);
+        }
+        let length = (data.len() as u16).to_le_bytes();
+        let call = Call {
+            session,
+            lent: flash.len(),
+            setup: [&[0x21, 1, 0, 0, 0, 0][..], &length].concat(),
+            data: data.to_vec(),
+            room: TRANSFER,
+        };
+        let reply = &mut [0; TRANSFER];
+        let outcome = step(&call.session, &mut flash, &call.setup, &call.data, reply);
+        call.stored(&outcome)
+    }
+
+    #[test]
+    fn a_call_tells_where_it_stored() {
+        let prog = [1, 0, 3, 0, 0xDC, 5, 0, 0];
+        let with_data = [&prog[..], &[7; 600]].concat();
+        assert_eq!(stored(None, &[4, 0, 3, 0, 2, 0, 9, 9]), Some(3_072..5_120));
+        assert_eq!(stored(None, &with_data), Some(3_072..3_672));
+        assert_eq!(stored(Some(900), &[8; 900]), Some(3_672..4_572));
+        assert_eq!(stored(Some(900), &[4; 8]), Some(3_672..3_680));
+        for nothing in [
+            &prog[..],
+            &[4, 0, 1, 0, 2, 0, 0, 0],
+            &[3, 0, 4, 0, 1, 0, 0, 0],
+        ] {
+            assert_eq!(stored(None, nothing), None);
+        }
+        for (left, piece) in [(900, &[][..]), (899, &[8; 900]), (0, &[])] {
+            assert_eq!(stored(Some(left), piece), None);
+        }
+    }
+
+    /// Whatever is stored by whatever call.
+    #[test]
+    fn right_sums_stay_right() {
+        for number in [0, 1, 2, ROUND - 1, 2 * ROUND - 1, 4 * ROUND - 1] {
+            let history = played(7, number);
+            let right = history.flash.chunks(BLOCK as usize).map(sum);
+            assert!(history.right.iter().copied().eq(right));
         }
     }
 

@@ -2,7 +2,10 @@
 //! can be (no table, no state machine tricks) because its only use is to
 //! disagree with the first one wherever one of the two misreads the paper.
 
+mod whole;
+
 use std::ops::Range;
+pub use whole::{join, joined};
 
 pub const BLOCK: u32 = 1_024;
 pub const ERASED: u8 = 0xFF;
@@ -282,13 +285,14 @@ impl Session {
         }
     }
 
+    /// Only these blocks are read. The sums of the others stay as they were
+    /// lent, and the whole is what the sums give, be they right or wrong.
     fn refresh_sums(&mut self, flash: &[u8], blocks: Range<u32>) {
         for block in blocks {
             let first = (block * BLOCK) as usize;
             self.sums[block as usize] = sum(&flash[first..first + BLOCK as usize]);
         }
-        let application = (self.a * BLOCK) as usize..(self.b * BLOCK) as usize;
-        self.whole = sum(&flash[application]);
+        self.whole = joined(&self.sums[self.a as usize..self.b as usize]);
     }
 }
 
@@ -892,6 +896,64 @@ mod tests {
             session.down_left = left;
             assert_eq!(session.fits(), fits);
         }
+    }
+
+    /// ERASE of one block, with what no call led to in the session.
+    fn erased(session: &Session, flash: &mut [u8], block: u8) -> Session {
+        let asked = [4, 0, block, 0, 1, 0, 0, 0];
+        let setup = [0x21, 1, 0, 0, 0, 0, 8, 0];
+        let out = step(session, flash, &setup, &asked, &mut [0; TRANSFER]);
+        assert_eq!(out.answer, answer::TAKEN);
+        out.session
+    }
+
+    /// As if other bytes lay in the blocks whose sums are wrong: the whole is
+    /// then what a walk over those bytes gives.
+    #[test]
+    fn wrong_sums_are_kept_and_give_the_whole() {
+        for wrong in [&[16][..], &[63], &[29], &[31], &[16, 17, 40, 63], &[30]] {
+            let Board { session, mut flash } = Board::fresh();
+            let mut session = session;
+            let mut other = flash.clone();
+            for block in wrong {
+                let bytes = &mut other[block * 1_024..][..1_024];
+                bytes.fill(*block as u8);
+                session.sums[*block] = sum(bytes);
+            }
+            let next = erased(&session, &mut flash, 30);
+            other[30 * 1_024..31 * 1_024].fill(ERASED);
+            assert_eq!(next.sums, start(&other, 16, 64, 0, 0).1.sums);
+            assert_eq!(next.whole, sum(&other[16_384..]));
+            let right = next.whole == sum(&flash[16_384..]);
+            assert_eq!(right, *wrong == [30]);
+        }
+    }
+
+    #[test]
+    fn a_wrong_whole_becomes_right_when_a_byte_is_stored() {
+        let Board { session, mut flash } = Board::fresh();
+        let wrong = Session {
+            whole: session.whole ^ 1,
+            ..session
+        };
+        let asked = [1, 0, 16, 0, 5, 0, 0, 0];
+        let setup = [0x21, 1, 0, 0, 0, 0, 8, 0];
+        let none = step(&wrong, &mut flash, &setup, &asked, &mut [0; TRANSFER]);
+        assert_eq!(none.session.whole, wrong.whole);
+        let next = erased(&wrong, &mut flash, 63);
+        assert_eq!(next.whole, sum(&flash[16_384..]));
+    }
+
+    #[test]
+    fn an_application_of_one_block_has_its_sum_as_the_whole() {
+        let mut flash = vec![0x5A; 4_096];
+        let (_, session) = start(&flash, 3, 4, 0, 0);
+        assert_eq!(session.whole, sum(&flash[3_072..]));
+        let mut wrong = session.clone();
+        (wrong.sums[3], wrong.whole) = (1, 2);
+        let next = erased(&wrong, &mut flash, 3);
+        assert_eq!(next.sums[3], sum(&[ERASED; 1_024]));
+        assert_eq!(next.whole, next.sums[3]);
     }
 
     const MOST: u32 = MOST_BLOCKS as u32;

@@ -3,7 +3,8 @@
 
 use crate::dice::Dice;
 use crate::histories::SMALL;
-use crate::second::{state, status, Session, BLOCK, FLASH_STREAM, INFO_STREAM, MOST_BLOCKS};
+use crate::second::{joined, state, status, Session};
+use crate::second::{BLOCK, FLASH_STREAM, INFO_STREAM, MOST_BLOCKS};
 
 const STATES: [u8; 6] = [
     state::IDLE,
@@ -138,6 +139,55 @@ fn between(dice: &mut Dice, least: u32, most: u32) -> u32 {
     }
 }
 
+/// Gives a fit session the right sums of its blocks, and makes some of them
+/// wrong then: none, the whole one alone, that of one block with a liking for the
+/// two ends, some, or all. Where a block's is wrong, the whole may be what the
+/// wrong sums give, or right for the flash, or neither.
+pub fn sum_nearly(dice: &mut Dice, session: &mut Session, right: &[u32]) {
+    let (a, b) = (session.a as usize, session.b as usize);
+    let right = &right[a..b];
+    let kept = &mut session.sums[a..b];
+    kept.copy_from_slice(right);
+    session.whole = joined(right);
+    let any = dice.below(b as u32 - a as u32) as usize;
+    match dice.below(10) {
+        0 => return,
+        1 => {
+            session.whole = another_sum(dice, session.whole);
+            return;
+        }
+        2..=4 => kept[any] = another_sum(dice, kept[any]),
+        5 => kept[0] = another_sum(dice, kept[0]),
+        6 => kept[b - a - 1] = another_sum(dice, kept[b - a - 1]),
+        7..=8 => {
+            let some = kept.iter_mut().filter(|_| dice.below(4) == 0);
+            some.for_each(|sum| *sum = !*sum);
+        }
+        _ => kept
+            .iter_mut()
+            .for_each(|sum| *sum = another_sum(dice, *sum)),
+    }
+    match dice.below(3) {
+        0 => session.whole = joined(kept),
+        1 => session.whole = another_sum(dice, session.whole),
+        _ => {}
+    }
+}
+
+/// Another sum than this one: by a bit, at an end of all sums, or any.
+fn another_sum(dice: &mut Dice, sum: u32) -> u32 {
+    let other = match dice.below(4) {
+        0 => sum ^ 1 << dice.below(32),
+        1 => 0,
+        2 => u32::MAX,
+        _ => dice.turn() as u32,
+    };
+    match other == sum {
+        true => !sum,
+        false => other,
+    }
+}
+
 /// Every state, status and flag, and what lies between and beside them.
 const BYTES: [u8; 18] = [
     0, 1, 2, 3, 4, 5, 6, 7, 8, 9, 10, 11, 12, 13, 14, 15, 16, 255,
@@ -234,6 +284,38 @@ mod tests {
                 assert!(session.fits(), "{session:?}");
             }
         }
+    }
+
+    /// How many are wrong, and whether the whole is then right for the flash or
+    /// what the sums give.
+    #[test]
+    fn sums_are_nearly_right() {
+        let mut dice = Dice::new(3);
+        let right: Vec<u32> = (0..9).map(|_| dice.turn() as u32).collect();
+        let whole = joined(&right[2..]);
+        let mut seen = [[0; 3]; 8];
+        for _ in 0..4_000 {
+            let mut session = Session {
+                a: 2,
+                b: 9,
+                ..fit(&mut dice, 9)
+            };
+            let outside = session.sums;
+            sum_nearly(&mut dice, &mut session, &right);
+            assert_eq!(session.sums[..2], outside[..2]);
+            assert_eq!(session.sums[9..], outside[9..]);
+            let kept = &session.sums[2..9];
+            let wrong = kept.iter().zip(&right[2..]).filter(|(a, b)| a != b);
+            let place = match session.whole {
+                sum if sum == whole => 0,
+                sum if sum == joined(kept) => 1,
+                _ => 2,
+            };
+            seen[wrong.count()][place] += 1;
+        }
+        assert!(seen[0][0] > 20 && seen[0][1] == 0 && seen[0][2] > 20);
+        let some = [1, 2, 3, 7].iter().flat_map(|count| seen[*count]);
+        assert!(some.into_iter().all(|times| times > 20), "{seen:?}");
     }
 
     /// In every state, so that no rule is tried in one state alone.

@@ -1,7 +1,7 @@
 //! The proved loader for Rust: the two calls that its library exports, and its
-//! sum by itself, made safe. What the C header asks of a board (buffers that
-//! don't overlap, nobody else writing meanwhile) the borrows here grant by
-//! themselves.
+//! sum and the join of two sums by themselves, made safe. What the C header asks
+//! of a board (buffers that don't overlap, nobody else writing meanwhile) the
+//! borrows here grant by themselves.
 
 mod raw;
 
@@ -47,9 +47,17 @@ pub fn sum(bytes: &[u8]) -> u32 {
     unsafe { raw::mullirim_sum(bytes.as_ptr(), bytes.len()) }
 }
 
+/// The sum of some bytes and of a block behind them, from the sum of each, by the
+/// same proved function as the loader's whole sum.
+pub fn join(before: u32, block: u32) -> u32 {
+    // SAFETY: only numbers are handed over, and any will do.
+    unsafe { raw::mullirim_join(before, block) }
+}
+
 #[cfg(test)]
 mod tests {
     use super::*;
+    use mullirim_host::dice::Dice;
     use mullirim_host::second::{self, BLOCK, MOST_BLOCKS};
 
     /// Every block that a session has a sum for, and not one more.
@@ -109,6 +117,32 @@ mod tests {
         let bytes: Vec<u8> = (0..49_152u32).map(|i| (i * 7 + i / 256) as u8).collect();
         for length in [0, 1, 2, 255, 256, 1_016, 1_023, 1_024, 1_025, 49_152] {
             assert_eq!(sum(&bytes[..length]), second::sum(&bytes[..length]));
+        }
+    }
+
+    #[test]
+    fn a_join_is_the_second_loaders() {
+        let mut dice = Dice::new(1);
+        let ends = [0, 1, 1 << 31, u32::MAX];
+        for (before, block) in ends.iter().flat_map(|a| ends.map(|b| (*a, b))) {
+            assert_eq!(join(before, block), second::join(before, block));
+        }
+        for bit in 0..u32::BITS {
+            assert_eq!(join(!(1 << bit), 0), second::join(!(1 << bit), 0));
+        }
+        for _ in 0..10_000 {
+            let (before, block) = (dice.turn() as u32, dice.turn() as u32);
+            assert_eq!(join(before, block), second::join(before, block));
+        }
+    }
+
+    #[test]
+    fn a_join_is_the_sum_over_both() {
+        let mut dice = Dice::new(2);
+        for length in [0, 1, 1_023, 1_024, 1_025, 5_000] {
+            let bytes = dice.bytes(length + BLOCK);
+            let (before, block) = bytes.split_at(length as usize);
+            assert_eq!(join(sum(before), sum(block)), sum(&bytes));
         }
     }
 

@@ -1,5 +1,5 @@
-//! The library's calls as `include/mullirim.h` declares them, and the sum by
-//! itself, which is exported for measuring alone.
+//! The library's calls as `include/mullirim.h` declares them, and the sum and the
+//! join of two sums by themselves, which are exported for measuring alone.
 
 use mullirim_host::layout::{Answer, Session, Started};
 
@@ -26,4 +26,6 @@ extern "C" {
     ) -> Answer;
 
     pub fn mullirim_sum(bytes: *const u8, bytes_len: usize) -> u32;
+
+    pub fn mullirim_join(before: u32, block: u32) -> u32;
 }

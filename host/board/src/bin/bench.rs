@@ -1,5 +1,5 @@
-//! Times the proved calls beside plain Rust and, for the sums, beside zlib.
-//! Before anything is timed, both sides must have come to the same result.
+//! Times the proved calls beside plain Rust and, for sums and their join, beside
+//! zlib. Before anything is timed, all sides must have come to the same result.
 
 #[path = "bench/bundle.rs"]
 mod bundle;
@@ -7,6 +7,10 @@ mod bundle;
 mod clock;
 #[path = "bench/download.rs"]
 mod download;
+#[path = "bench/joins.rs"]
+mod joins;
+#[path = "bench/kept.rs"]
+mod kept;
 #[path = "bench/piece.rs"]
 mod piece;
 #[path = "bench/plain.rs"]
@@ -46,14 +50,19 @@ struct Board {
     blocks: u16,
 }
 
-/// That board, and one with as many blocks as can be.
-const BOARDS: [Board; 2] = [
+/// That board, one with as many blocks as can be, and one with the longest
+/// application that these can have.
+const BOARDS: [Board; 3] = [
     Board {
         first: FIRST,
         blocks: BLOCKS,
     },
     Board {
         first: FIRST,
+        blocks: second::MOST_BLOCKS as u16,
+    },
+    Board {
+        first: 1,
         blocks: second::MOST_BLOCKS as u16,
     },
 ];
@@ -74,9 +83,10 @@ impl Board {
 
     /// What was measured, with the board where it isn't that of the desk.
     fn named(self, what: &str) -> String {
-        match self.blocks {
-            BLOCKS => what.to_string(),
-            blocks => format!("{what}, B = {blocks}"),
+        match (self.first, self.blocks) {
+            (FIRST, BLOCKS) => what.to_string(),
+            (FIRST, blocks) => format!("{what}, B = {blocks}"),
+            (first, blocks) => format!("{what}, A = {first}, B = {blocks}"),
         }
     }
 }
@@ -86,11 +96,12 @@ type Compared = Result<Vec<Row>, String>;
 
 fn main() -> ExitCode {
     println!(
-        "{:<25} {:>7} {:>9}  {:<30} {:>7} {:>6}  rounds",
+        "{:<34} {:>7} {:>9}  {:<30} {:>7} {:>6}  rounds",
         "what", "ours", "a second", "beside", "theirs", "ratio"
     );
     let comparisons = [
         sums::compare,
+        joins::compare,
         download::compare,
         piece::compare,
         search::compare,

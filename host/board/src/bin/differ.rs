@@ -1,6 +1,7 @@
 //! Compares the proved loader with the second one, call by call: answer, count,
-//! every field of the session, every byte of flash and reply. The first
-//! difference ends the run.
+//! every field of the session, every byte of flash and reply. Where all sums of
+//! blocks are right, both are held to the sum over the application's bytes too.
+//! The first difference ends the run.
 
 #[path = "differ/commands.rs"]
 mod commands;
@@ -8,6 +9,8 @@ mod commands;
 mod compare;
 #[path = "differ/eights.rs"]
 mod eights;
+#[path = "differ/joins.rs"]
+mod joins;
 #[path = "differ/large.rs"]
 mod large;
 #[path = "differ/pieces.rs"]

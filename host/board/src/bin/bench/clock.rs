@@ -15,6 +15,8 @@ const LONG_ENOUGH: Duration = Duration::from_millis(30);
 pub struct Side<'a> {
     name: &'a str,
     turns: Box<dyn FnMut(u32) -> Duration + 'a>,
+    /// How many things of a kind a turn does. What is told is the time of one.
+    things: u32,
 }
 
 impl<'a> Side<'a> {
@@ -31,6 +33,7 @@ impl<'a> Side<'a> {
         Side {
             name,
             turns: Box::new(turns),
+            things: 1,
         }
     }
 
@@ -52,7 +55,13 @@ impl<'a> Side<'a> {
         Side {
             name,
             turns: Box::new(move |count| (0..count).map(|_| turn()).sum()),
+            things: 1,
         }
+    }
+
+    /// The same side, whose turns do so many things of a kind.
+    pub fn of(self, things: u32) -> Side<'a> {
+        Side { things, ..self }
     }
 
     /// How many turns make a repetition that is long enough.
@@ -64,13 +73,13 @@ impl<'a> Side<'a> {
         count
     }
 
-    /// The microseconds that one turn took, over a repetition.
+    /// The microseconds that one thing took, over a repetition.
     fn time(&mut self, count: u32) -> f64 {
-        (self.turns)(count).as_secs_f64() * 1e6 / f64::from(count)
+        (self.turns)(count).as_secs_f64() * 1e6 / f64::from(count) / f64::from(self.things)
     }
 }
 
-/// Ours beside one of theirs, in microseconds for a turn.
+/// Ours beside one of theirs, in microseconds for one thing.
 pub struct Row {
     what: String,
     beside: String,
@@ -103,15 +112,15 @@ impl fmt::Display for Row {
         rounds.sort_by(f64::total_cmp);
         write!(
             out,
-            "{:<25} {:>7} {:>9.0}  {:<30} {:>7} {:>6.2}  {:.2} to {:.2}",
+            "{:<34} {:>7} {:>9.0}  {:<30} {:>7} {:>6}  {} to {}",
             self.what,
             figures(ours),
             1e6 / ours,
             self.beside,
             figures(theirs),
-            ours / theirs,
-            rounds[0],
-            rounds[rounds.len() - 1]
+            ratio(ours / theirs),
+            ratio(rounds[0]),
+            ratio(rounds[rounds.len() - 1])
         )
     }
 }
@@ -120,6 +129,12 @@ impl fmt::Display for Row {
 fn figures(number: f64) -> String {
     let decimals = 2 - number.log10().floor() as i32;
     format!("{number:.*}", decimals.max(0) as usize)
+}
+
+/// Two decimals, or four where so few would leave next to nothing.
+fn ratio(number: f64) -> String {
+    let decimals = [2, 4][usize::from(number < 0.1)];
+    format!("{number:.decimals$}")
 }
 
 fn ratios(ours: &[f64], theirs: &[f64]) -> Vec<f64> {
@@ -160,6 +175,12 @@ mod tests {
     }
 
     #[test]
+    fn small_ratios_are_told_apart() {
+        assert_eq!([ratio(0.1), ratio(12.345)], ["0.10", "12.35"]);
+        assert_eq!([ratio(0.0059), ratio(0.07)], ["0.0059", "0.0700"]);
+    }
+
+    #[test]
     fn the_sides_take_turns() {
         let order = RefCell::new(Vec::new());
         let side = |name: &'static str, long: u64| Side {
@@ -171,6 +192,7 @@ mod tests {
                     Duration::from_millis(long) * count
                 }
             }),
+            things: 1,
         };
         let rows = race("nothing", vec![side("ours", 60), side("theirs", 40)]);
         assert_eq!(order.borrow().len(), 2 + 2 * REPETITIONS);
@@ -188,9 +210,13 @@ mod tests {
         let mut side = Side {
             name: "seven",
             turns: Box::new(|count| Duration::from_millis(7) * count),
+            things: 1,
         };
         assert_eq!(side.repetition(), 8);
         assert_eq!(side.time(8), 7_000.0);
+        let mut side = side.of(100);
+        assert_eq!(side.repetition(), 8);
+        assert_eq!(side.time(8), 70.0);
     }
 
     #[test]

@@ -1,8 +1,10 @@
-//! A whole download onto an erased application. The second loader sums bit by
-//! bit and is no rival in speed; it stands here because it does all the same.
+//! A whole download onto an erased application. Beside ours stand Rust that reads
+//! the application after each piece, as ours once did, and Rust that joins the sums
+//! of the blocks too. The second loader sums bit by bit and is no rival in speed; it
+//! stands here because it does all the same.
 
 use super::clock::{race, Side};
-use super::plain::{self, Sums};
+use super::kept::{Kept, Refresh, WAYS};
 use super::{agree, noise, started, Compared, APPLICATION, FIRST, FLASH};
 use mullirim_board::{request, Session};
 use mullirim_host::second::{self, command, state, ERASED, TRANSFER};
@@ -61,43 +63,49 @@ fn erased() -> Vec<u8> {
     vec![ERASED; FLASH]
 }
 
+/// The application before a download, as plain Rust keeps it.
+fn plain(refresh: Refresh) -> Kept {
+    Kept::new(&erased()[APPLICATION], refresh)
+}
+
 fn sides<'a>(pieces: &'a [&'a [u8]], sent: &'a [Sent]) -> Vec<Side<'a>> {
     let session = started(&erased());
     let second = second::Session::from(&session);
-    let sums = Sums::new(&erased()[APPLICATION]);
-    vec![
-        Side::readied("ours", erased, move |mut flash| {
-            let (taken, session) = play(session, &mut flash, sent);
-            (taken, session, flash)
-        }),
-        Side::readied("Rust, byte table: same work", erased, move |mut flash| {
-            let mut sums = sums.clone();
-            let done = plain::download(&mut flash[APPLICATION], &mut sums, pieces);
-            (done, sums, flash)
-        }),
-        Side::readied("second loader, bit by bit", erased, move |mut flash| {
-            let (taken, session) = play_second(second.clone(), &mut flash, sent);
-            (taken, session, flash)
-        }),
-    ]
+    let mut sides = vec![Side::readied("ours", erased, move |mut flash| {
+        let (taken, session) = play(session, &mut flash, sent);
+        (taken, session, flash)
+    })];
+    for (name, refresh) in WAYS {
+        let ready = move || plain(refresh);
+        sides.push(Side::readied(name, ready, |mut kept| {
+            (kept.download(pieces), kept)
+        }));
+    }
+    let by_bits = move |mut flash: Vec<u8>| {
+        let (taken, session) = play_second(second.clone(), &mut flash, sent);
+        (taken, session, flash)
+    };
+    sides.push(Side::readied("second loader, bit by bit", erased, by_bits));
+    sides
 }
 
-/// Whether all three are done, have the image in flash, and keep the same sums.
+/// Whether all are done, have the image in flash, and keep the same sums.
 fn same(image: &[u8], pieces: &[&[u8]], sent: &[Sent]) -> bool {
     let session = started(&erased());
     let second = second::Session::from(&session);
-    let mut flashes = [erased(), erased(), erased()];
-    let mut sums = Sums::new(&flashes[2][APPLICATION]);
+    let mut flashes = [erased(), erased()];
     let (taken, ours) = play(session, &mut flashes[0], sent);
     let (second_taken, second) = play_second(second, &mut flashes[1], sent);
-    let done = plain::download(&mut flashes[2][APPLICATION], &mut sums, pieces);
+    let plainly = |(_, refresh): &(&str, Refresh)| {
+        let mut kept = plain(*refresh);
+        kept.download(pieces) && kept.same(image, &ours)
+    };
     taken
         && second_taken
-        && done
         && flashes.iter().all(|flash| flash[APPLICATION] == *image)
         && second::Session::from(&ours) == second
         && ours.phase.state == state::IDLE
-        && sums.kept_by(&ours)
+        && WAYS.iter().all(plainly)
 }
 
 /// Plays the requests through the proved loader: whether all were taken, and
@@ -145,7 +153,7 @@ mod tests {
     }
 
     #[test]
-    fn all_three_do_the_same() {
+    fn all_do_the_same() {
         let image = noise(APPLICATION.len());
         let pieces = cut(&image, 1_024);
         let sent = requests(&pieces);

@@ -1,8 +1,9 @@
-//! One piece of a download: 1,024 bytes in state 5, on the board of the desk and on
-//! the largest. Either side reads the application anew after it.
+//! One piece of a download: 1,024 bytes in state 5, which touch one block. Beside
+//! ours stand Rust that reads all of the application after it, as ours once did, and
+//! Rust that joins the sums of the blocks too.
 
 use super::clock::{race, Side};
-use super::plain::{put, Sums};
+use super::kept::{Kept, WAYS};
 use super::{agree, dnload, noise, Board, Compared, BOARDS};
 use mullirim_board::{request, Session};
 use mullirim_host::second::{command, ERASED, TRANSFER};
@@ -18,29 +19,26 @@ pub fn compare() -> Compared {
 
 fn on(board: Board) -> Compared {
     let what = board.named("piece of 1024");
-    let piece = noise(TRANSFER);
+    let piece = &noise(TRANSFER)[..];
     let mut flash = vec![ERASED; board.bytes()];
     let session = awaiting(board, &mut flash);
-    let mut plain = flash[board.application()].to_vec();
-    let mut sums = Sums::new(&plain);
+    let mut plain = WAYS.map(|(_, refresh)| Kept::new(&flash[board.application()], refresh));
     let mut sent = session;
-    let code = dnload(&mut sent, &mut flash, &piece).code;
-    put(&mut plain, &mut sums, 0, &piece);
-    let same = code == 0 && sums.kept_by(&sent) && flash[board.application()] == plain;
-    agree(&what, same)?;
+    let code = dnload(&mut sent, &mut flash, piece).code;
+    agree(&what, code == 0 && sent.sums == board.started(&flash).sums)?;
+    for kept in &mut plain {
+        kept.put(0, piece);
+        agree(&what, kept.same(&flash[board.application()], &sent))?;
+    }
     let ours = || {
         let mut session = session;
-        dnload(&mut session, &mut flash, &piece);
+        dnload(&mut session, &mut flash, piece);
         session
     };
-    let plainly = || {
-        put(&mut plain, &mut sums, 0, &piece);
-        sums.whole
-    };
-    let sides = vec![
-        Side::steady("ours", ours),
-        Side::steady("Rust, byte table: same work", plainly),
-    ];
+    let mut sides = vec![Side::steady("ours", ours)];
+    for ((name, _), mut kept) in WAYS.into_iter().zip(plain) {
+        sides.push(Side::steady(name, move || kept.put(0, piece)));
+    }
     Ok(race(&what, sides))
 }
 

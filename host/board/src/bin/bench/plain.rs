@@ -1,8 +1,6 @@
 //! The same work as one writes it in Rust at first: a table, a byte at a step,
 //! slices copied whole.
 
-use super::BLOCK;
-use mullirim_board::Session;
 use mullirim_files::bundle::{head, Refusal, Unwritten, MOST};
 use mullirim_host::layout::Parts;
 
@@ -18,7 +16,8 @@ const fn remainders() -> [u32; 256] {
     table
 }
 
-const fn remainder(byte: u32) -> u32 {
+/// What is left of eight bits that are taken in.
+pub const fn remainder(byte: u32) -> u32 {
     let mut rest = byte;
     let mut bit = 0;
     while bit < 8 {
@@ -34,61 +33,6 @@ pub fn sum(bytes: &[u8]) -> u32 {
         let low = (running ^ u32::from(*byte)) & 0xFF;
         (running >> 8) ^ REMAINDERS[low as usize]
     })
-}
-
-/// The sums that a loader keeps: by application block from 0, and the whole.
-#[derive(Clone, Debug, PartialEq)]
-pub struct Sums {
-    pub block: Vec<u32>,
-    pub whole: u32,
-}
-
-impl Sums {
-    pub fn new(application: &[u8]) -> Sums {
-        Sums {
-            block: application.chunks(BLOCK).map(sum).collect(),
-            whole: sum(application),
-        }
-    }
-
-    /// Whether a session keeps these, and zeros for all other blocks.
-    pub fn kept_by(&self, session: &Session) -> bool {
-        let Session { board, sums, .. } = session;
-        let (first, blocks) = (board.first as usize, board.blocks as usize);
-        let others = sums.block[..first].iter().chain(&sums.block[blocks..]);
-        sums.block[first..blocks] == self.block
-            && sums.whole == self.whole
-            && others.copied().all(|sum| sum == 0)
-    }
-
-    /// The sums after bytes `from` to the one before `to` of the application
-    /// changed; at least one did.
-    pub fn refresh(&mut self, application: &[u8], from: usize, to: usize) {
-        for block in from / BLOCK..to.div_ceil(BLOCK) {
-            self.block[block] = sum(&application[block * BLOCK..(block + 1) * BLOCK]);
-        }
-        self.whole = sum(application);
-    }
-}
-
-/// A download without its protocol: the erased check, then piece by piece.
-pub fn download(application: &mut [u8], sums: &mut Sums, pieces: &[&[u8]]) -> bool {
-    if !application.iter().all(|byte| *byte == 0xFF) {
-        return false;
-    }
-    let mut place = 0;
-    for piece in pieces {
-        put(application, sums, place, piece);
-        place += piece.len();
-    }
-    true
-}
-
-/// A piece copied to its place and the sums refreshed after it.
-pub fn put(application: &mut [u8], sums: &mut Sums, place: usize, piece: &[u8]) {
-    let end = place + piece.len();
-    application[place..end].copy_from_slice(piece);
-    sums.refresh(application, place, end);
 }
 
 /// What is the same in every suffix: bcdDFU, signature and length.
@@ -219,7 +163,7 @@ fn write_head(lengths: &[u64], front: &mut [u8]) {
 #[cfg(test)]
 mod tests {
     use super::*;
-    use crate::{noise, APPLICATION};
+    use crate::noise;
     use mullirim_files::bundle;
     use mullirim_host::dice::Dice;
     use mullirim_host::second;
@@ -231,18 +175,6 @@ mod tests {
         let bytes = noise(2_049);
         for length in [0, 1, 3, 256, 1_024, 2_049] {
             assert_eq!(sum(&bytes[..length]), second::sum(&bytes[..length]));
-        }
-    }
-
-    #[test]
-    fn refreshed_sums_are_those_made_new() {
-        let mut application = noise(APPLICATION.len());
-        let mut sums = Sums::new(&application);
-        for (from, to) in [(0, 1), (1_023, 1_025), (2_048, 3_072), (49_151, 49_152)] {
-            application[from..to].fill(0);
-            assert_ne!(sums, Sums::new(&application));
-            sums.refresh(&application, from, to);
-            assert_eq!(sums, Sums::new(&application));
         }
     }
 
@@ -382,17 +314,5 @@ mod tests {
             seen[read.map_or_else(|why| why.number() as usize, |_| 0)] += 1;
         }
         assert!(seen.iter().all(|times| *times > 20), "{seen:?}");
-    }
-
-    #[test]
-    fn a_download_asks_for_erased_flash() {
-        let image = noise(1_500);
-        let mut application = vec![0xFF; APPLICATION.len()];
-        let mut sums = Sums::new(&application);
-        let pieces = [&image[..1_016], &image[1_016..]];
-        assert!(download(&mut application, &mut sums, &pieces));
-        assert_eq!(application[..1_500], image);
-        assert_eq!(sums, Sums::new(&application));
-        assert!(!download(&mut application, &mut sums, &pieces));
     }
 }

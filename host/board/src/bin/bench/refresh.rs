@@ -1,52 +1,58 @@
-//! One changed block: ERASE of it, which refreshes its sum and the whole one.
+//! One changed block: ERASE of it, which reads the block for its sum and joins the
+//! whole one. Beside it stand Rust that reads all of the application for the whole,
+//! as ours once did, Rust that joins it too, and a start, which reads all once.
 
 use super::clock::{race, Side};
-use super::plain::Sums;
-use super::{agree, dnload, noise, started, Compared, APPLICATION, BLOCK, FIRST, FLASH};
+use super::kept::{Kept, WAYS};
+use super::{agree, dnload, noise, Board, Compared, BOARDS};
 use mullirim_board::Session;
-use mullirim_host::second::{command, ERASED};
+use mullirim_host::second::command;
 use mullirim_host::tape::header;
 use std::hint::black_box;
 
 /// The erased block, counted from the application's first.
-const CHANGED: usize = 20;
+const CHANGED: u16 = 20;
 
 pub fn compare() -> Compared {
-    let mut flash = noise(FLASH);
-    let session = started(&flash);
-    let mut plain_flash = flash.clone();
-    let mut plain_sums = Sums::new(&plain_flash[APPLICATION]);
+    let mut rows = Vec::new();
+    for board in BOARDS {
+        rows.extend(on(board)?);
+    }
+    Ok(rows)
+}
+
+fn on(board: Board) -> Compared {
+    let what = board.named("ERASE of one block");
+    let mut flash = noise(board.bytes());
+    let session = board.started(&flash);
+    let mut plain = WAYS.map(|(_, refresh)| Kept::new(&flash[board.application()], refresh));
     let mut erased = session;
-    let code = erase(&mut erased, &mut flash);
-    erase_plainly(&mut plain_flash, &mut plain_sums);
-    let same = code == 0
-        && erased.sums == started(&flash).sums
-        && plain_sums.kept_by(&erased)
-        && flash == plain_flash;
-    agree("ERASE of a block", same)?;
+    let code = erase(board, &mut erased, &mut flash);
+    agree(
+        &what,
+        code == 0 && erased.sums == board.started(&flash).sums,
+    )?;
+    for kept in &mut plain {
+        kept.erase(CHANGED.into());
+        agree(&what, kept.same(&flash[board.application()], &erased))?;
+    }
     let read = flash.clone();
     let ours = || {
         let mut session = session;
-        erase(&mut session, &mut flash);
+        erase(board, &mut session, &mut flash);
         session
     };
-    let plainly = || erase_plainly(&mut plain_flash, &mut plain_sums);
-    let sides = vec![
-        Side::steady("ours", ours),
-        Side::steady("ours, start: all read twice", || started(black_box(&read))),
-        Side::steady("Rust, byte table: same work", plainly),
-    ];
-    Ok(race("ERASE of one block", sides))
+    let mut sides = vec![Side::steady("ours", ours)];
+    for ((name, _), mut kept) in WAYS.into_iter().zip(plain) {
+        sides.push(Side::steady(name, move || kept.erase(CHANGED.into())));
+    }
+    sides.push(Side::steady("ours, a start: all read once", || {
+        board.started(black_box(&read))
+    }));
+    Ok(race(&what, sides))
 }
 
-fn erase(session: &mut Session, flash: &mut [u8]) -> u32 {
-    let one = header(command::ERASE, FIRST + CHANGED as u16, 1);
+fn erase(board: Board, session: &mut Session, flash: &mut [u8]) -> u32 {
+    let one = header(command::ERASE, board.first + CHANGED, 1);
     dnload(session, flash, &one).code
-}
-
-fn erase_plainly(flash: &mut [u8], sums: &mut Sums) -> u32 {
-    let (from, to) = (CHANGED * BLOCK, (CHANGED + 1) * BLOCK);
-    flash[APPLICATION][from..to].fill(ERASED);
-    sums.refresh(&flash[APPLICATION], from, to);
-    sums.whole
 }

@@ -1,28 +1,33 @@
-//! A start, which reads the application twice: for the sums of its blocks, and for the
-//! whole one.
+//! A start, which reads each block of the application once and joins their sums.
+//! Rust that reads all of it once more for the whole sum stands beside it, too.
 
 use super::clock::{race, Side};
-use super::plain::Sums;
-use super::{agree, noise, Compared, BOARDS};
+use super::kept::Sums;
+use super::{agree, noise, Board, Compared, BOARDS};
 use std::hint::black_box;
 
 pub fn compare() -> Compared {
     let mut rows = Vec::new();
     for board in BOARDS {
-        let what = board.named("start");
-        let flash = noise(board.bytes());
-        let application = &flash[board.application()];
-        agree(
-            &what,
-            Sums::new(application).kept_by(&board.started(&flash)),
-        )?;
-        let sides = vec![
-            Side::steady("ours", || board.started(black_box(&flash))),
-            Side::steady("Rust, byte table: same work", || {
-                Sums::new(black_box(application))
-            }),
-        ];
-        rows.extend(race(&what, sides));
+        rows.extend(on(board)?);
     }
     Ok(rows)
+}
+
+fn on(board: Board) -> Compared {
+    let what = board.named("start");
+    let flash = noise(board.bytes());
+    let application = &flash[board.application()];
+    let ours = board.started(&flash);
+    for theirs in [Sums::new(application), Sums::by_two_readings(application)] {
+        agree(&what, theirs.kept_by(&ours))?;
+    }
+    let sides = vec![
+        Side::steady("ours", || board.started(black_box(&flash))),
+        Side::steady("Rust: same work", || Sums::new(black_box(application))),
+        Side::steady("Rust: application read twice", || {
+            Sums::by_two_readings(black_box(application))
+        }),
+    ];
+    Ok(race(&what, sides))
 }

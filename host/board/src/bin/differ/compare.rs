@@ -5,7 +5,7 @@ use crate::tally::Tally;
 use mullirim_board::{request, start, Session};
 use mullirim_host::comparison::{same, same_bytes, Same};
 use mullirim_host::histories::{Call, History, Start, REPLY_ROOM};
-use mullirim_host::second;
+use mullirim_host::second::{self, BLOCK};
 
 /// What lies before the flash that is lent.
 const BEFORE: [u8; 7] = [0x5A; 7];
@@ -56,6 +56,9 @@ impl Pair {
         tally.start(call, answer);
         same("start's answer", &started.code, &u32::from(answer))?;
         same_session(&started.session, &self.history.session)?;
+        if answer == second::answer::TAKEN {
+            self.same_whole(&self.history.session)?;
+        }
         self.same_flash()
     }
 
@@ -64,6 +67,7 @@ impl Pair {
         let flash = &mut self.flash[self.moved..][..call.lent];
         let reply = &mut self.reply[..call.room];
         let answer = request(&mut session, flash, &call.setup, &call.data, reply);
+        let before = self.history.right.clone();
         let awaited = self.history.serve(call, &mut self.awaited);
         tally.requests += 1;
         same("answer", &answer.code, &u32::from(awaited.answer))?;
@@ -71,8 +75,24 @@ impl Pair {
         same_session(&session, &awaited.session)?;
         self.same_flash()?;
         same_bytes("reply", &self.reply, &self.awaited)?;
-        tally.agreed(&Seen::new(call, &awaited, &self.history.flash));
+        if call.stored(&awaited).is_some() {
+            self.same_whole(&awaited.session)?;
+        }
+        let right = [&before[..], &self.history.right];
+        tally.agreed(&Seen::new(call, &awaited, &self.history.flash, right));
         Ok(())
+    }
+
+    /// Neither loader reads the application for its whole sum. Where the sums of
+    /// all its blocks are right, it must be what reading gives all the same.
+    fn same_whole(&self, kept: &second::Session) -> Same {
+        let blocks = kept.a as usize..kept.b as usize;
+        if kept.sums[blocks.clone()] != self.history.right[blocks] {
+            return Ok(());
+        }
+        let bytes = (kept.a * BLOCK) as usize..(kept.b * BLOCK) as usize;
+        let read = second::sum(&self.history.flash[bytes]);
+        same("whole sum", &kept.whole, &read)
     }
 
     fn same_flash(&self) -> Same {

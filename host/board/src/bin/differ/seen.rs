@@ -1,6 +1,7 @@
 //! One request as the rows look at it: taken apart, with what came of it.
 
 use crate::eights::Lone;
+use crate::joins::Refresh;
 use mullirim_host::histories::Call;
 use mullirim_host::second::{answer, state, status, Outcome, Session, BLOCK};
 use std::ops::{Range, RangeInclusive};
@@ -55,10 +56,18 @@ pub struct Seen<'a> {
     pub piece: Option<u32>,
     /// The bytes asked for by an UPLOAD that was taken.
     pub upload: Option<u32>,
+    /// Where bytes were stored.
+    pub refresh: Option<Refresh>,
 }
 
 impl<'a> Seen<'a> {
-    pub fn new(call: &'a Call, outcome: &'a Outcome, flash: &'a [u8]) -> Seen<'a> {
+    /// With the right sums of the flash's blocks, before the call and after it.
+    pub fn new(
+        call: &'a Call,
+        outcome: &'a Outcome,
+        flash: &'a [u8],
+        right: [&[u32]; 2],
+    ) -> Seen<'a> {
         let mut seen = Seen {
             call,
             outcome,
@@ -67,6 +76,7 @@ impl<'a> Seen<'a> {
             lone: None,
             piece: None,
             upload: None,
+            refresh: Refresh::new(call, outcome, right),
         };
         let bytes = &call.data[..];
         let fit = outcome.answer != answer::UNFIT;
