@@ -13,8 +13,9 @@
  *  - nobody else writes any of it while a call runs, nor the flash and the session between two calls.
  *    A session that somebody else wrote is refused (answer 2) if it breaks its rules, and else served as it stands: a smaller
  *    `first` opens blocks that the start had kept shut, and a wrong block sum stays until its block is erased or written. An erase
- *    or a write joins the whole sum from the block sums and reads no other block, so a wrong one makes the whole wrong too. The
- *    same goes for sums that flash written by somebody else has left behind. No byte beyond what was lent is touched.
+ *    or a write makes the sums of its own blocks from the flash and joins the whole sum from all block sums, so a wrong one can
+ *    make the whole wrong too. The same goes for sums that no longer fit because somebody else wrote flash. No byte beyond what
+ *    was lent is touched.
  */
 #ifndef MULLIRIM_H
 #define MULLIRIM_H

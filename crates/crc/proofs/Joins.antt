@@ -43,13 +43,19 @@ crc-xor c d (x ∷ xs) =
     ∙ crc-xor (byteStep c x) (bitSteps 8 d) xs
     ∙ ap (bitXor (crcFrom (byteStep c x) xs)) (sym (bits-add 8 (length xs * 8) d) ∙ ap (λ (n : ℕ). bitSteps n d) bits)
 
--- the join is the sum
+-- the law: a sum that goes on from c is the bytes' own sum, and what their bits make of the difference of c and the start
+pub crc-law : (c : ℕ) (xs : List ℕ) → crcFrom c xs ≡ bitXor (crcOf xs) (bitSteps (length xs * 8) (bitXor c start))
+unfolding crcOf
+crc-law c xs =
+    ap (λ (n : ℕ). crcFrom n xs) (sym (xor-zero-l c) ∙ ap (λ (n : ℕ). bitXor n c) (sym (xor-self start)) ∙ xor-assoc start start c)
+    ∙ ap (λ (n : ℕ). crcFrom (bitXor start n) xs) (xor-comm start c)
+    ∙ crc-xor start (bitXor c start) xs
+
+-- the join is the law at a block
 pub crc-joined : (c : ℕ) (block : List ℕ) → length block * 8 ≡ blockBits → crcFrom c block ≡ joined c (crcOf block)
-unfolding joined crcOf
+unfolding joined
 crc-joined c block e =
-    ap (λ (n : ℕ). crcFrom n block) (sym (xor-zero-l c) ∙ ap (λ (n : ℕ). bitXor n c) (sym (xor-self start)) ∙ xor-assoc start start c)
-    ∙ ap (λ (n : ℕ). crcFrom (bitXor start n) block) (xor-comm start c)
-    ∙ crc-xor start (bitXor c start) block
+    crc-law c block
     ∙ ap (λ (n : ℕ). bitXor (crcOf block) (bitSteps n (bitXor c start))) e
     ∙ xor-comm (crcOf block) (bitSteps blockBits (bitXor c start))
 

@@ -47,6 +47,6 @@ columnsOf (suc k) = squared (columnsOf k)
 unfoldable pub halves : List ℕ → List ℕ
 halves columns = values (λ i. through columns (i % 16 * 2 ^ (i / 16 * 4))) 0 128
 
--- the table of the join
+-- the table of the join: what the bits of a block make of each half byte at each place
 unfoldable pub blockHalves : List ℕ
 blockHalves = halves (columnsOf squarings)

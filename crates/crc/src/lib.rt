@@ -1,4 +1,4 @@
-// The sum of the DFU file suffix: CRC-32, reflected, with no final complement.
+// The sum of the DFU file suffix: CRC-32, reflected, with no final complement; and the join of two sums.
 ghost use mathlib.Core.Path.{_≡_};
 ghost use Rattle.crc.specs.Crc.{bitSteps, byteStep, crcFrom, crcOf, remainders};
 ghost use Rattle.crc.specs.Join.{blockBits, blockHalves, joined, joinedOf};
@@ -53,6 +53,7 @@ fn past_block(half: &[u32; 128], running: u32) -> u32
     past
 }
 
+// The join by the table that is lent.
 fn join_by(half: &[u32; 128], before: u32, block: u32) -> u32
     requires { ⌜ now half ≡ blockHalves ⌝ }
     ensures { λ r. ⌜ r ≡ joined before block ⌝ }

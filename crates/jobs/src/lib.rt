@@ -56,7 +56,7 @@ pub fn carry_out(job: Job, flash: &mut [u8], d: &[u8])
     }
 }
 
-// The sums after n bytes were stored from `at` on. Where no byte was, the flash is not read.
+// The sums after n bytes were stored from `at` on. Where no byte was, all stay as kept, the whole too.
 fn sums_after(board: Board, kept: Sums, flash: &[u8], at: Addr, n: u32) -> Sums
     requires { ⌜ Split (now flash) (board .a .0) (appEnd board) ⌝ }
     requires { ⌜ Place board (at .0) n ⌝ }

@@ -1,10 +1,9 @@
 // The kept sums of a flash: one for each application block and one over the whole application, made fresh and refreshed
 // after blocks changed. The application is given by its first block and the block after its last.
 use flash::Block;
-ghost use Prim.Native.Nat.{_-_, _≤_};
+ghost use Prim.Native.Nat.{_+_, _-_, _≤_};
 ghost use mathlib.Core.Path.{_≡_};
-ghost use Rattle.crc.specs.Crc.{crcOf};
-ghost use Rattle.sums.specs.Sum.{blocksOf, freshSums, joinedSum, mostBlocks, refreshed, renewed, Split};
+ghost use Rattle.sums.specs.Sum.{blockSum, freshSums, joinedSum, mostBlocks, refreshed, renewed, Split};
 
 // The most blocks that a flash may have: the one place in code that says so.
 pub const MOST: usize = 256;
@@ -15,13 +14,14 @@ pub struct Sums {
     pub whole: u32,
 }
 
-// The sum of blocks `first` to the one before `stop`.
-fn sum_of(flash: &[u8], first: Block, stop: Block) -> u32
-    requires { ⌜ Split (now flash) (first .0) (stop .0) ⌝ }
-    ensures { λ r. ⌜ r ≡ crcOf (blocksOf (now (flash .entry)) (first .0) (stop .0)) ⌝ }
+// The sum of a block.
+fn sum_of(flash: &[u8], block: Block) -> u32
+    requires { ⌜ Split (now flash) (block .0) (block .0 + 1) ⌝ }
+    ensures { λ r. ⌜ r ≡ blockSum (now (flash .entry)) (block .0) ⌝ }
 {
-    let from = first.start().0 as usize;
-    let to = stop.start().0 as usize;
+    let next = Block(block.0 + 1);
+    let from = block.start().0 as usize;
+    let to = next.start().0 as usize;
     crc::sum(&flash[from..to])
 }
 
@@ -34,7 +34,7 @@ fn renew(block: &mut [u32; MOST], flash: &[u8], first: Block, stop: Block)
     let high = stop.0;
     for k in low..high {
         let i = k as usize;
-        block[i] = sum_of(flash, Block(k), Block(k + 1));
+        block[i] = sum_of(flash, Block(k));
     }
 }
 

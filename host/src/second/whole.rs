@@ -2,8 +2,8 @@
 //!
 //! The 32 bits of a sum are taken as a polynomial over the numbers 0 and 1: bit
 //! 31 is the coefficient of x^0, bit 0 that of x^31. A bit that is taken in
-//! multiplies by x, and what division by the CRC's polynomial leaves is kept. So
-//! many bits of zeros multiply by as high a power of x, however they are had.
+//! multiplies by x, and what division by the CRC's polynomial leaves is kept. So n
+//! bits of zeros multiply by x^n, and it doesn't matter how that power is had.
 
 use super::{BLOCK, NOTHING_SUMMED};
 

@@ -2,7 +2,7 @@
 use Prim.Native.Nat.{_-_, _≤_}
 use mathlib.Core.Path.{_≡_, refl, sym, _∙_}
 use native.Mathlib.Omega.{arith}
-use Rattle.sums.specs.Sum.{renewed, blockSum}
+use Rattle.sums.specs.Sum.{renewed}
 use Rattle.sums.proofs.Renewed.{renewed-turn, renewed-done}
 use Rattle.sums.proofs.renew.Statement.{statement}
 use Rattle.sums.proofs.renew.Tie as tie
@@ -20,9 +20,6 @@ loop-holds c = (omega arith, omega arith, refl)
 cast-i : tie.Need-cast-i Inv-loop μ-loop
 cast-i c = omega arith
 
-add-t12 : tie.Need-add-t12 Inv-loop μ-loop
-add-t12 c = omega arith
-
 sum-of-requires : tie.Need-sum-of-requires Inv-loop μ-loop
 sum-of-requires c κs = record { ordered = omega arith; counted = omega arith; inside = omega arith }
 
@@ -39,7 +36,6 @@ loop-less : tie.Need-loop-less Inv-loop μ-loop
 loop-less c = omega arith
 
 loop-again : tie.Need-loop-again Inv-loop μ-loop
-unfolding blockSum
 loop-again c =
     let l = c .before .before .loop in
     (omega arith, omega arith, renewed-turn _ _ (l .k) _ _ (c .before .loop-test .taken) (c .sum-of .ensures) ∙ l .inv .2)
@@ -57,7 +53,6 @@ renew-spec =
     μ-loop
     loop-holds
     cast-i
-    add-t12
     sum-of-requires
     mul-block
     element-write-block

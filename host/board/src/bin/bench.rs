@@ -91,7 +91,7 @@ impl Board {
     }
 }
 
-/// A comparison: what was measured, or how the two sides differed.
+/// A comparison: what was measured, or how the sides differed.
 type Compared = Result<Vec<Row>, String>;
 
 fn main() -> ExitCode {
@@ -129,11 +129,11 @@ fn main() -> ExitCode {
     ExitCode::SUCCESS
 }
 
-/// Goes on where both sides agree.
+/// Goes on where the sides agree.
 fn agree(what: &str, same: bool) -> Result<(), String> {
     match same {
         true => Ok(()),
-        false => Err(format!("{what}: the two sides differ")),
+        false => Err(format!("{what}: the sides differ")),
     }
 }
 
