@@ -1,9 +1,10 @@
 -- Xor, one binary digit at a time. Assumes nothing.
 use mathlib.Core.Path.{_≡_, refl, sym, ap, ap₂, _∙_}
-use Prim.Native.Nat.{ℕ, zero, suc, _+_, _*_, _/_, _%_, _<_}
-use native.Mathlib.Nat.{mod-lt, zero-lt-suc, div-add-mod'}
+use Prim.Native.Nat.{ℕ, zero, suc, _+_, _*_, _/_, _%_, _^_, _<_}
+use native.Mathlib.Nat.{mod-lt, zero-lt-suc, div-add-mod', add-comm, mul-one, mul-assoc, add-mul}
 use native.Mathlib.Omega.{arith}
 use lib.Arith.{bin-ind, digits-div, digits-mod}
+use lib.Pow.{pow-pos, pow-add, shl-lt}
 use lib.Bits.{bitXor, differ, xor-step, xor-comm, xor-shifted}
 
 -- what holds of 0 and of 1 holds of every digit
@@ -52,6 +53,20 @@ xor-swap a b c d =
     ∙ ap (bitXor a) (sym (xor-assoc b c d) ∙ ap (λ (x : ℕ). bitXor x d) (xor-comm b c) ∙ xor-assoc c b d)
     ∙ sym (xor-assoc a c (bitXor b d))
 
+-- w digits of a number and the rest of it, wherever they stand
+pub parted : (w k n : ℕ) → bitXor (n % 2 ^ w * 2 ^ k) (n / 2 ^ w * 2 ^ (k + w)) ≡ n * 2 ^ k
+parted w k n =
+    let low : ℕ = n % 2 ^ w in
+    let high : ℕ = n / 2 ^ w in
+    ap (λ (p : ℕ). bitXor (low * 2 ^ k) (high * 2 ^ p)) (add-comm k w)
+    ∙ xor-comm (low * 2 ^ k) (high * 2 ^ (w + k))
+    ∙ xor-shifted high (w + k) (low * 2 ^ k) (shl-lt w k (mod-lt n (pow-pos w)))
+    ∙ ap (λ (p : ℕ). high * p + low * 2 ^ k) (pow-add 2 w k)
+    ∙ ap (λ (m : ℕ). m + low * 2 ^ k) (sym (mul-assoc high (2 ^ w) (2 ^ k)))
+    ∙ sym (add-mul (high * 2 ^ w) low (2 ^ k))
+    ∙ ap (λ (m : ℕ). m * 2 ^ k) (div-add-mod' n (2 ^ w))
+
 -- a number is the xor of its high part and its low byte
 pub high-xor-low : (n : ℕ) → n ≡ bitXor (n / 256 * 256) (n % 256)
-high-xor-low n = sym (div-add-mod' n 256) ∙ sym (xor-shifted (n / 256) 8 (n % 256) (mod-lt n (omega arith)))
+high-xor-low n =
+    sym (parted 8 0 n ∙ mul-one n) ∙ xor-comm (n % 256 * 1) (n / 256 * 256) ∙ ap (bitXor (n / 256 * 256)) (mul-one (n % 256))

@@ -3,20 +3,19 @@ use mathlib.Core.Path.{_≡_, refl, sym, ap, ap₂, _∙_, subst}
 use mathlib.Core.Bool.{cond}
 use mathlib.Core.List.{List, [], _∷_}
 use Prim.Native.Nat.{ℕ, zero, suc, _+_, _-_, _*_, _/_, _%_, _^_, _≤_, _<_}
-use native.Mathlib.Nat.{zero-mul, one-mul, mul-one, mul-assoc, add-mul, zero-add, suc-add, add-comm, zero-lt-suc}
-use native.Mathlib.Nat.{mod-lt, div-add-mod', lt-of-lt-of-le, two-pow-succ}
+use native.Mathlib.Nat.{zero-mul, one-mul, mul-one, zero-add, suc-add, zero-lt-suc, mod-lt, lt-of-lt-of-le, two-pow-succ}
 use native.Mathlib.Numerals.{add-one}
 use native.Mathlib.Omega.{arith}
 use lib.Arith.{digits-div, digits-mod}
 use lib.Dec.{eqb}
 use lib.ListN.{length, getD}
-use lib.Pow.{pow-pos, pow-mono, pow-lt, pow-add, shl-lt, shr-lt}
-use lib.Bits.{bitXor, xor-comm, xor-self, xor-zero-l, xor-zero-r, xor-shifted}
+use lib.Pow.{pow-mono, pow-lt, shl-lt, shr-lt}
+use lib.Bits.{bitXor, xor-comm, xor-self, xor-zero-l, xor-zero-r}
 use Rattle.crc.specs.Values.{values}
 use Rattle.crc.specs.Crc.{start, bitStep, bitSteps, byteStep, crcFrom, crcOf}
 use Rattle.crc.specs.Join.{blockBits, joined, squarings, through, squared, columnsOf, halves, blockHalves}
 use Rattle.crc.proofs.Values.{values-at, values-same, map-values}
-use Rattle.crc.proofs.Bits.{of-digits, low-digit, xor-assoc}
+use Rattle.crc.proofs.Bits.{of-digits, low-digit, xor-assoc, parted}
 use Rattle.crc.proofs.Laws.{bits-fit, bits-xor}
 
 -- ---- a block behind some bytes
@@ -60,19 +59,6 @@ crc-joined c block e =
     ∙ xor-comm (crcOf block) (bitSteps blockBits (bitXor c start))
 
 -- ---- the table
-
--- w digits of a number and the rest of it, wherever they stand
-pub parted : (w k n : ℕ) → bitXor (n % 2 ^ w * 2 ^ k) (n / 2 ^ w * 2 ^ (k + w)) ≡ n * 2 ^ k
-parted w k n =
-    let low : ℕ = n % 2 ^ w in
-    let high : ℕ = n / 2 ^ w in
-    ap (λ (p : ℕ). bitXor (low * 2 ^ k) (high * 2 ^ p)) (add-comm k w)
-    ∙ xor-comm (low * 2 ^ k) (high * 2 ^ (w + k))
-    ∙ xor-shifted high (w + k) (low * 2 ^ k) (shl-lt w k (mod-lt n (pow-pos w)))
-    ∙ ap (λ (p : ℕ). high * p + low * 2 ^ k) (pow-add 2 w k)
-    ∙ ap (λ (m : ℕ). m + low * 2 ^ k) (sym (mul-assoc high (2 ^ w) (2 ^ k)))
-    ∙ sym (add-mul (high * 2 ^ w) low (2 ^ k))
-    ∙ ap (λ (m : ℕ). m * 2 ^ k) (div-add-mod' n (2 ^ w))
 
 -- the columns of m bit steps make of a number what the steps make of it
 abbrev of-steps : ℕ → ℕ → ℕ

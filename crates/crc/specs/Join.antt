@@ -26,6 +26,7 @@ joinedOf blocks = joinedFrom start blocks
 
 -- ---- the bits of a block in thirteen squarings, where bit by bit they are 8,192 steps
 
+-- so often is one bit step squared to be a block's
 abbrev pub squarings : ℕ
 squarings = 13
 

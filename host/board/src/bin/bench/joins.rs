@@ -75,10 +75,9 @@ mod tests {
         let awaited = all(&pairs, second::join);
         assert_eq!(all(&pairs, mullirim_board::join), awaited);
         assert_eq!(all(&pairs, kept::join), awaited);
-        if let Some(zlib) = Combine::find() {
-            let join = |before, block| zlib.join(before, block, BLOCK);
-            assert_eq!(all(&pairs, join), awaited);
-        }
+        let zlib = Combine::find().expect("crc32_combine in libz.so.1");
+        let join = |before, block| zlib.join(before, block, BLOCK);
+        assert_eq!(all(&pairs, join), awaited);
     }
 
     #[test]
