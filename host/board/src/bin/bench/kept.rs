@@ -2,41 +2,14 @@
 //! for a sum, and the whole one in two ways. Either all of the application is read
 //! for it again, or it is joined from the sums of the blocks by four tables.
 
-use super::plain::{remainder, sum};
+use super::plain::{past, sum, NOTHING_SUMMED};
 use super::BLOCK;
 use mullirim_board::Session;
 use mullirim_host::second::ERASED;
 use std::ops::Range;
 
 /// What a block of zeros makes of a sum, by each of its four bytes.
-static PAST_A_BLOCK: [[u32; 256]; 4] = tables();
-
-/// The entries of one bit are those without it, and what becomes of that bit.
-const fn tables() -> [[u32; 256]; 4] {
-    let mut tables = [[0; 256]; 4];
-    let mut bit = 0;
-    while bit < 32 {
-        let moved = past_a_block(1 << bit);
-        let (byte, first) = (bit / 8, 1 << (bit % 8));
-        let mut index = 0;
-        while index < first {
-            tables[byte][first + index] = tables[byte][index] ^ moved;
-            index += 1;
-        }
-        bit += 1;
-    }
-    tables
-}
-
-const fn past_a_block(sum: u32) -> u32 {
-    let mut running = sum;
-    let mut taken = 0;
-    while taken < BLOCK {
-        running = (running >> 8) ^ remainder(running & 0xFF);
-        taken += 1;
-    }
-    running
-}
+static PAST_A_BLOCK: [[u32; 256]; 4] = past(BLOCK);
 
 /// The sum of some bytes and of a block behind them, from the sum of each.
 pub fn join(before: u32, block: u32) -> u32 {
@@ -83,7 +56,7 @@ impl Sums {
 
     fn join(&mut self) {
         let each = self.block.iter();
-        self.whole = each.fold(0xFFFF_FFFF, |before, block| join(before, *block));
+        self.whole = each.fold(NOTHING_SUMMED, |before, block| join(before, *block));
     }
 
     fn read_blocks(&mut self, application: &[u8], changed: Range<usize>) {

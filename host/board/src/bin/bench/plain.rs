@@ -17,7 +17,7 @@ const fn remainders() -> [u32; 256] {
 }
 
 /// What is left of eight bits that are taken in.
-pub const fn remainder(byte: u32) -> u32 {
+const fn remainder(byte: u32) -> u32 {
     let mut rest = byte;
     let mut bit = 0;
     while bit < 8 {
@@ -27,12 +27,49 @@ pub const fn remainder(byte: u32) -> u32 {
     rest
 }
 
+/// What so many zero bytes make of a sum, by each of its parts: as many as there are
+/// tables, each with an entry for whatever a part may be. The entries of one bit are
+/// those without it, and what becomes of that bit.
+pub const fn past<const ENTRIES: usize, const PARTS: usize>(
+    zeros: usize,
+) -> [[u32; ENTRIES]; PARTS] {
+    let mut tables = [[0; ENTRIES]; PARTS];
+    let mut bit = 0;
+    while bit < 32 {
+        let moved = past_zeros(1 << bit, zeros);
+        let (part, first) = (bit / (32 / PARTS), 1 << (bit % (32 / PARTS)));
+        let mut index = 0;
+        while index < first {
+            tables[part][first + index] = tables[part][index] ^ moved;
+            index += 1;
+        }
+        bit += 1;
+    }
+    tables
+}
+
+const fn past_zeros(sum: u32, zeros: usize) -> u32 {
+    let mut running = sum;
+    let mut taken = 0;
+    while taken < zeros {
+        running = (running >> 8) ^ remainder(running & 0xFF);
+        taken += 1;
+    }
+    running
+}
+
+pub const NOTHING_SUMMED: u32 = 0xFFFF_FFFF;
+
 /// The paper's sum by the table.
 pub fn sum(bytes: &[u8]) -> u32 {
-    bytes.iter().fold(0xFFFF_FFFF, |running, byte| {
-        let low = (running ^ u32::from(*byte)) & 0xFF;
-        (running >> 8) ^ REMAINDERS[low as usize]
-    })
+    let each = bytes.iter();
+    each.fold(NOTHING_SUMMED, |running, byte| taken_in(running, *byte))
+}
+
+/// A sum with one more byte.
+pub fn taken_in(running: u32, byte: u8) -> u32 {
+    let low = (running ^ u32::from(byte)) & 0xFF;
+    (running >> 8) ^ REMAINDERS[low as usize]
 }
 
 /// What is the same in every suffix: bcdDFU, signature and length.
