@@ -7,6 +7,8 @@ mod bundle;
 mod clock;
 #[path = "bench/download.rs"]
 mod download;
+#[path = "bench/eighths.rs"]
+mod eighths;
 #[path = "bench/joins.rs"]
 mod joins;
 #[path = "bench/kept.rs"]
