@@ -1,9 +1,10 @@
-//! The sums that a loader keeps, as one writes them in Rust at first: a byte table
-//! for a sum, and the whole one in two ways. Either all of the application is read
-//! for it again, or it is joined from the sums of the blocks by four tables.
+//! The sums that a loader keeps, in Rust, in two ways. As one writes it at first: a
+//! byte table for a sum, and all of the application read again for the whole one. And
+//! as ours does it: eight streams for the sum of a block, and the whole one joined
+//! from these, by four tables.
 
 use super::plain::{past, sum, NOTHING_SUMMED};
-use super::BLOCK;
+use super::{eighths, BLOCK};
 use mullirim_board::Session;
 use mullirim_host::second::ERASED;
 use std::ops::Range;
@@ -29,14 +30,14 @@ impl Sums {
     /// Each block read once, and then joined.
     pub fn new(application: &[u8]) -> Sums {
         let mut sums = Sums {
-            block: application.chunks(BLOCK).map(sum).collect(),
+            block: application.chunks(BLOCK).map(eighths::sum).collect(),
             whole: 0,
         };
         sums.join();
         sums
     }
 
-    /// All read twice: by blocks, and for the whole.
+    /// All read twice by the byte table: by blocks, and for the whole.
     pub fn by_two_readings(application: &[u8]) -> Sums {
         Sums {
             block: application.chunks(BLOCK).map(sum).collect(),
@@ -59,7 +60,12 @@ impl Sums {
         self.whole = each.fold(NOTHING_SUMMED, |before, block| join(before, *block));
     }
 
-    fn read_blocks(&mut self, application: &[u8], changed: Range<usize>) {
+    fn read_blocks(
+        &mut self,
+        application: &[u8],
+        changed: Range<usize>,
+        sum: impl Fn(&[u8]) -> u32,
+    ) {
         for block in changed.start / BLOCK..changed.end.div_ceil(BLOCK) {
             self.block[block] = sum(&application[block * BLOCK..(block + 1) * BLOCK]);
         }
@@ -70,14 +76,14 @@ impl Sums {
 /// least one did.
 pub type Refresh = fn(&mut Sums, &[u8], Range<usize>);
 
-/// What ours did before it joined, and what it does.
+/// What ours did before it joined and summed by streams, and what it does.
 pub const WAYS: [(&str, Refresh); 2] = [
     ("Rust: application reread", |sums, application, changed| {
-        sums.read_blocks(application, changed);
+        sums.read_blocks(application, changed, sum);
         sums.whole = sum(application);
     }),
     ("Rust: same work", |sums, application, changed| {
-        sums.read_blocks(application, changed);
+        sums.read_blocks(application, changed, eighths::sum);
         sums.join();
     }),
 ];
