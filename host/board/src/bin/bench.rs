@@ -1,5 +1,6 @@
-//! Times the proved calls beside plain Rust and, for sums and their join, beside
-//! zlib. Before anything is timed, all sides must have come to the same result.
+//! Times the proved calls beside plain Rust and, for sums, their join and a whole
+//! download, beside zlib. Before anything is timed, all sides must have come to the
+//! same result.
 
 #[path = "bench/bundle.rs"]
 mod bundle;

@@ -1,14 +1,17 @@
 //! A whole download onto an erased application. Beside ours stand Rust that reads
 //! the application after each piece, as ours once did, and Rust that joins the sums
 //! of the blocks too. The second loader sums bit by bit and is no rival in speed; it
-//! stands here because it does all the same.
+//! stands here because it does all the same. Where zlib is at hand, one copy and one
+//! sum of all bytes stand beside it too: no request, and no block by itself.
 
 use super::clock::{race, Side};
 use super::kept::{Kept, Refresh, WAYS};
+use super::zlib::Zlib;
 use super::{agree, noise, started, Compared, APPLICATION, FIRST, FLASH};
 use mullirim_board::{request, Session};
 use mullirim_host::second::{self, command, state, ERASED, TRANSFER};
 use mullirim_host::tape::{header, setup};
+use std::hint::black_box;
 
 const PIECES: [usize; 2] = [1_016, 1_024];
 
@@ -20,13 +23,16 @@ struct Sent {
 
 pub fn compare() -> Compared {
     let image = noise(APPLICATION.len());
+    let zlib = Zlib::find();
     let mut rows = Vec::new();
     for piece in PIECES {
         let pieces = cut(&image, piece);
         let sent = requests(&pieces);
         let what = format!("download, pieces of {piece}");
-        agree(&what, same(&image, &pieces, &sent))?;
-        rows.extend(race(&what, sides(&pieces, &sent)));
+        agree(&what, same(&image, &pieces, &sent, zlib.as_ref()))?;
+        let mut sides = sides(&pieces, &sent);
+        sides.extend(zlib.as_ref().map(|zlib| bare(&image, zlib)));
+        rows.extend(race(&what, sides));
     }
     Ok(rows)
 }
@@ -89,8 +95,22 @@ fn sides<'a>(pieces: &'a [&'a [u8]], sent: &'a [Sent]) -> Vec<Side<'a>> {
     sides
 }
 
+/// What any download does with its bytes at least.
+fn bare<'a>(image: &'a [u8], zlib: &'a Zlib) -> Side<'a> {
+    Side::readied("one copy and one sum, zlib", erased, |mut flash| {
+        (copy_and_sum(image, &mut flash, zlib), flash)
+    })
+}
+
+/// The sum is that of the copy. For all the compiler knows the copy is looked at and
+/// changed in between, so neither is left out.
+fn copy_and_sum(image: &[u8], flash: &mut [u8], zlib: &Zlib) -> u32 {
+    flash[APPLICATION].copy_from_slice(black_box(image));
+    zlib.sum(&black_box(flash)[APPLICATION])
+}
+
 /// Whether all are done, have the image in flash, and keep the same sums.
-fn same(image: &[u8], pieces: &[&[u8]], sent: &[Sent]) -> bool {
+fn same(image: &[u8], pieces: &[&[u8]], sent: &[Sent], zlib: Option<&Zlib>) -> bool {
     let session = started(&erased());
     let second = second::Session::from(&session);
     let mut flashes = [erased(), erased()];
@@ -100,12 +120,17 @@ fn same(image: &[u8], pieces: &[&[u8]], sent: &[Sent]) -> bool {
         let mut kept = plain(*refresh);
         kept.download(pieces) && kept.same(image, &ours)
     };
+    let barely = |zlib: &Zlib| {
+        let mut flash = erased();
+        copy_and_sum(image, &mut flash, zlib) == ours.sums.whole && flash == flashes[0]
+    };
     taken
         && second_taken
         && flashes.iter().all(|flash| flash[APPLICATION] == *image)
         && second::Session::from(&ours) == second
         && ours.phase.state == state::IDLE
         && WAYS.iter().all(plainly)
+        && zlib.into_iter().all(barely)
 }
 
 /// Plays the requests through the proved loader: whether all were taken, and
@@ -157,9 +182,25 @@ mod tests {
         let image = noise(APPLICATION.len());
         let pieces = cut(&image, 1_024);
         let sent = requests(&pieces);
-        assert!(same(&image, &pieces, &sent));
-        assert!(!same(&noise(1), &pieces, &sent));
-        assert!(!same(&image, &pieces[1..], &sent));
-        assert!(!same(&image, &pieces, &sent[1..]));
+        assert!(same(&image, &pieces, &sent, None));
+        assert!(!same(&noise(1), &pieces, &sent, None));
+        assert!(!same(&image, &pieces[1..], &sent, None));
+        assert!(!same(&image, &pieces, &sent[1..], None));
+    }
+
+    #[test]
+    fn one_copy_and_one_sum_are_of_the_same_bytes() {
+        let zlib = Zlib::find().expect("libz.so.1");
+        let image = noise(APPLICATION.len());
+        let pieces = cut(&image, 1_016);
+        let sent = requests(&pieces);
+        assert!(same(&image, &pieces, &sent, Some(&zlib)));
+        let [mut ours, mut copied] = [erased(), erased()];
+        let (taken, session) = play(started(&ours), &mut ours, &sent);
+        let sum = copy_and_sum(&image, &mut copied, &zlib);
+        assert!(taken);
+        assert_eq!(copied, ours);
+        assert_eq!(sum, session.sums.whole);
+        assert_eq!(sum, second::sum(&image));
     }
 }
