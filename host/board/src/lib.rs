@@ -111,12 +111,17 @@ mod tests {
         assert_eq!(reply[..5], [0x4D, 0x4C, 0x01, 0x20, 0xEE]);
     }
 
+    /// Eight streams go over blocks of 32 to 1,024 bytes, so every length up to two of
+    /// the largest and some more is tried, from each place beside a multiple of eight.
     #[test]
     fn a_sum_is_the_papers() {
         assert_eq!(sum(b"123456789"), 0x340B_C6D9);
-        let bytes: Vec<u8> = (0..49_152u32).map(|i| (i * 7 + i / 256) as u8).collect();
-        for length in [0, 1, 2, 255, 256, 1_016, 1_023, 1_024, 1_025, 49_152] {
-            assert_eq!(sum(&bytes[..length]), second::sum(&bytes[..length]));
+        let bytes = Dice::new(3).bytes(7 + 49_152);
+        for first in 0..8 {
+            for length in (0..=2_100).chain([49_152]) {
+                let lent = &bytes[first..][..length];
+                assert_eq!(sum(lent), second::sum(lent), "{length} bytes from {first}");
+            }
         }
     }
 
