@@ -1,20 +1,16 @@
 /*
- * How much memory a board must have for the loader: the bytes of a session, and the bytes of stack that each call uses. Calls run on a
- * stack of their own that was painted before; what they wrote is no longer of that colour. A call that does nothing shows what this
- * program's own frames take, with arguments and return address, and that is taken off. The program fails where a request is not answered
- * as it should be, or a call takes more than the header's MULLIRIM_STACK, with this program's own frames counted in.
+ * How much memory a board must have for the loader: the bytes of a session, and the bytes of stack that each call uses; painted.h says how
+ * these are found. The program fails where a request is not answered as it should be, or a call takes more than the header's
+ * MULLIRIM_STACK, with this program's own frames counted in.
  *
- * Only names of the header are used, so that it can be compiled with the header and library of another commit; where that has no
- * MULLIRIM_STACK, with -DMULLIRIM_STACK=... for it.
+ * Of the library only names of its header are used, so that it can be compiled with the header and library of another commit; where that
+ * has no MULLIRIM_STACK, with -DMULLIRIM_STACK=... for it.
  */
 #define _DEFAULT_SOURCE
-#include <stdio.h>
-#include <stdlib.h>
-#include <string.h>
-#include <ucontext.h>
 #include "mullirim.h"
+#include "painted.h"
 
-enum { FIRST = 16, BLOCKS = MULLIRIM_MOST_BLOCKS, AT = FIRST * MULLIRIM_BLOCK, STACK = 1 << 20, PROG_DATA = MULLIRIM_REPLY_ROOM - 8 };
+enum { FIRST = 16, BLOCKS = MULLIRIM_MOST_BLOCKS, AT = FIRST * MULLIRIM_BLOCK, PROG_DATA = MULLIRIM_REPLY_ROOM - 8 };
 enum { IDLE = 2, SYNC = 3, MANIFEST = 6, UP_IDLE = 9, ERROR = 10, INFO_BYTES = 20 };
 
 /* What a call is lent, and what came of it. */
@@ -53,12 +49,6 @@ static struct mullirim_answer request_nothing(struct mullirim_session *s, uint8_
     return lent.answer;
 }
 
-static void fail(const char *what, const char *how)
-{
-    printf("stack: %s %s\n", what, how);
-    exit(1);
-}
-
 static void call_start(void)
 {
     lent.started = start(lent.flash, lent.flash_len, lent.first, (uint32_t)(lent.flash_len / MULLIRIM_BLOCK), 0, 0);
@@ -68,45 +58,6 @@ static void call_request(void)
 {
     lent.answer = request(&lent.session, lent.flash, lent.flash_len, lent.setup, sizeof lent.setup, lent.data, lent.data_len, lent.reply,
                           sizeof lent.reply);
-}
-
-/* How far down a call writes on a stack of this colour. */
-static size_t depth(void (*call)(void), int colour)
-{
-    static _Alignas(64) uint8_t stack[STACK];
-    static ucontext_t here, there;
-    size_t untouched = 0;
-
-    memset(stack, colour, STACK);
-    if (getcontext(&there))
-        exit(2);
-    there.uc_stack.ss_sp = stack;
-    there.uc_stack.ss_size = STACK;
-    there.uc_link = &here;
-    makecontext(&there, call, 0);
-    if (swapcontext(&here, &there))
-        exit(2);
-    while (untouched < STACK && stack[untouched] == colour)
-        untouched++;
-    if (untouched == 0)
-        exit(2);
-    return STACK - untouched;
-}
-
-/* A byte that is written may have the colour by chance, so there are two; and the first call of all may be slower than later ones, since
- * the C library's functions are looked for at the first use of each. `ready` puts all that is lent as it was. */
-static size_t deepest(void (*call)(void), void (*ready)(void))
-{
-    static const int colours[] = {0, 0x5A, 0xA5};
-    size_t most = 0;
-
-    for (size_t i = 0; i < sizeof colours / sizeof *colours; i++) {
-        ready();
-        size_t down = depth(call, colours[i]);
-        if (i > 0 && down > most)
-            most = down;
-    }
-    return most;
 }
 
 /* What is lent is made ready by the case at hand. */
@@ -217,11 +168,6 @@ static const struct {
 };
 
 static const char WRONG[] = "is not answered as it should be", DEEP[] = "takes more stack than MULLIRIM_STACK";
-
-static void print(const char *name, size_t bytes)
-{
-    printf("%-38s %7zu\n", name, bytes);
-}
 
 /* `down` is all that the call took with the frames around it, `own` is what those take. */
 static void print_call(const char *name, size_t down, size_t own)
