@@ -3,3 +3,5 @@ pub mod Folds
 pub mod Bits
 pub mod Laws
 pub mod Joins
+pub mod Columns
+pub mod Streams

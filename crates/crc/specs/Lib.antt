@@ -2,3 +2,4 @@
 pub mod Values
 pub mod Crc
 pub mod Join
+pub mod Eighths

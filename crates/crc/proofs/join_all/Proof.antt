@@ -15,8 +15,8 @@ Inv-loop blocks half sum₀ i₀ sum i = (i ≤ length blocks) × (joinedFrom su
 abbrev μ-loop : tie.MeasureT-loop
 μ-loop blocks half sum₀ i₀ sum i = length blocks - i
 
-table-requires : tie.Need-table-requires Inv-loop μ-loop
-table-requires c κs = search needs
+of-block-requires : tie.Need-of-block-requires Inv-loop μ-loop
+of-block-requires c κs = search needs
 
 loop-holds : tie.Need-loop-holds Inv-loop μ-loop
 unfolding joinedOf
@@ -53,7 +53,7 @@ join-all-spec =
     (tie.spec
     Inv-loop
     μ-loop
-    table-requires
+    of-block-requires
     loop-holds
     mul-join-by
     shared-slice-read-join-by

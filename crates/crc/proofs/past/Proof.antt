@@ -1,18 +1,22 @@
--- The walk over the half bytes (Joins): what is past and what is left give the whole.
+-- What is picked so far and what is left to pick give all that is picked (Joins).
 use Prim.Native.Nat.{_-_, _≤_}
+use mathlib.Core.Path.{_≡_, sym, _∙_}
 use native.Mathlib.Omega.{arith}
-use Rattle.crc.proofs.Joins.{Past, past-none, past-next, past-all}
-use Rattle.crc.proofs.past_block.Statement.{statement}
-use Rattle.crc.proofs.past_block.Tie as tie
+use lib.Bits.{bitXor, xor-zero-l}
+use Rattle.crc.proofs.Joins.{pickedFrom, picked, picked-bits, picked-next, picked-done}
+use Rattle.crc.proofs.past.Statement.{statement}
+use Rattle.crc.proofs.past.Tie as tie
 
 abbrev Inv-loop : tie.InvT-loop
-Inv-loop half running left₀ past₀ place₀ left past place = (place ≤ 8) × Past running place left past
+Inv-loop half running left₀ past₀ place₀ left past place =
+    (place ≤ 8) × (bitXor past (pickedFrom half place (8 - place) left) ≡ picked half running)
 
 abbrev μ-loop : tie.MeasureT-loop
 μ-loop half running left₀ past₀ place₀ left past place = 8 - place
 
 loop-holds : tie.Need-loop-holds Inv-loop μ-loop
-loop-holds c = (omega arith, past-none _ (omega arith))
+unfolding picked
+loop-holds c = (omega arith, xor-zero-l _)
 
 mul-past : tie.Need-mul-past Inv-loop μ-loop
 mul-past c = omega arith
@@ -38,13 +42,18 @@ loop-less c = omega arith
 loop-again : tie.Need-loop-again Inv-loop μ-loop
 loop-again c =
     let at = c .before .before in
-    (omega arith, past-next (at .before .pre) (omega arith) (at .loop .inv .1))
+    (omega arith, picked-next _ (at .loop .place) (at .loop .left) (at .loop .past) (omega arith) ∙ at .loop .inv .1)
 
 returns : tie.Need-returns Inv-loop μ-loop
-returns c = past-all (omega arith) (c .before .loop .inv .1)
+returns c =
+    let at = c .before in
+    λ bits e.
+    sym (picked-done _ (at .loop .place) (at .loop .left) (at .loop .past) (omega arith))
+    ∙ at .loop .inv .1
+    ∙ picked-bits bits (at .before .args .running) e (omega arith)
 
-pub past-block-spec : {M : Type 1} → statement M
-past-block-spec =
+pub past-spec : {M : Type 1} → statement M
+past-spec =
     tie.close
     (tie.spec
     Inv-loop
