@@ -89,7 +89,7 @@ bench: build/libboard.a
 	@$(BOARD) bench
 	@$(MAKE) --no-print-directory memory
 
-# The bytes of a session, of the stack and of the code; fails where a call takes more stack than the header says.
+# The bytes of a session, of the stack and of the code; fails where a call takes more stack than the header says, or a sum is wrong.
 memory: build/libboard.a
 	@tools/memory
 

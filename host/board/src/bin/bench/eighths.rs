@@ -7,8 +7,8 @@ use std::array;
 const STREAMS: usize = 8;
 const WORD: usize = 4;
 
-/// The paper's sum. All blocks of 1,024 bytes go first; of each other size there is
-/// then at most one.
+/// The paper's sum. All blocks of 1,024 bytes go first, and then parts of those sizes
+/// that ours has.
 pub fn sum(bytes: &[u8]) -> u32 {
     behind(NOTHING_SUMMED, bytes)
 }
@@ -19,7 +19,6 @@ fn behind(before: u32, bytes: &[u8]) -> u32 {
     let at = Eighths::<64>::taken_in(at);
     let at = Eighths::<32>::taken_in(at);
     let at = Eighths::<16>::taken_in(at);
-    let at = Eighths::<8>::taken_in(at);
     let (running, rest) = Eighths::<4>::taken_in(at);
     let each = rest.iter();
     each.fold(running, |running, byte| taken_in(running, *byte))

@@ -1,7 +1,7 @@
 //! The sums that a loader keeps, in Rust, in two ways. As one writes it at first: a
 //! byte table for a sum, and all of the application read again for the whole one. And
 //! as ours does it: eight streams for the sum of a block, and the whole one joined
-//! from these, by four tables.
+//! from these, here by four tables of 256.
 
 use super::plain::{past, sum, NOTHING_SUMMED};
 use super::{eighths, BLOCK};
