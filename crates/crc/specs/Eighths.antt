@@ -8,6 +8,13 @@ use Rattle.numbers.specs.Numbers.{longAt}
 use Rattle.crc.specs.Crc.{bitSteps, byteStep, crcFrom}
 use Rattle.crc.specs.Join.{pastHalves}
 
+-- the bytes of a block, and the bits of its eighth, which has 128 bytes
+abbrev pub blockBytes : ℕ
+blockBytes = 1024
+
+abbrev pub eighthBits : ℕ
+eighthBits = 1024
+
 -- n numbers of a list, from place k on, each by its place and itself
 unfoldable pub eachFrom : (ℕ → ℕ → ℕ) → List ℕ → ℕ → ℕ → List ℕ
 eachFrom f l k zero = l

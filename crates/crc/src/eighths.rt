@@ -9,7 +9,10 @@ ghost use mathlib.Core.Path.{_≡_};
 ghost use lib.ListN.{length, drop};
 ghost use Rattle.crc.specs.Crc.{crcFrom, remainders};
 ghost use Rattle.crc.specs.Join.{pastHalves};
-ghost use Rattle.crc.specs.Eighths.{eachFrom, withFour, oneByteOn, firstSums, Ahead, JoinOf, Goes};
+ghost use Rattle.crc.specs.Eighths.{blockBytes, eighthBits, eachFrom, withFour, oneByteOn, firstSums, Ahead, JoinOf, Goes};
+
+// The bytes of a block. What fills one is summed by eighths of 128, whose bits are as many as a block has bytes.
+pub const BLOCK: usize = 1024;
 
 // How far a sum has come: the sum of all that stands before a place.
 pub struct Reached {
@@ -43,7 +46,7 @@ fn step_all(remainder: &[u32; 256], sums: &mut [u32; 8])
 // The table is made here and not lent, and so is that of the join: they take stack one after the other, while the compiler leaves the
 // two functions calls of their own. It does so for what is long and called from two places.
 fn block_eighths(running: u32, bytes: &[u8], from: usize) -> [u32; 8]
-    requires { ⌜ from + 1024 ≤ length (now bytes) ⌝ }
+    requires { ⌜ from + blockBytes ≤ length (now bytes) ⌝ }
     ensures { λ r. ⌜ Ahead (now (bytes .entry)) from 128 128 (firstSums running) r ⌝ }
 {
     let remainder = remainders::table();
@@ -61,7 +64,7 @@ fn block_eighths(running: u32, bytes: &[u8], from: usize) -> [u32; 8]
 // One sum of the eight, in their order: what is joined so far goes through the bits of an eighth, and then comes the next.
 fn join_block(sums: [u32; 8]) -> u32
     requires { ⌜ length sums ≡ 8 ⌝ }
-    ensures { λ r. ⌜ JoinOf (pastHalves 1024) sums r ⌝ }
+    ensures { λ r. ⌜ JoinOf (pastHalves eighthBits) sums r ⌝ }
 {
     let half = halves::of_128();
     let mut sum = sums[0];
@@ -74,15 +77,15 @@ fn join_block(sums: [u32; 8]) -> u32
 
 // The sum goes on over blocks of 1,024 bytes from a place on to the end.
 pub fn by_blocks(running: u32, bytes: &[u8], from: usize) -> u32
-    requires { ⌜ from + 1024 ≤ length (now bytes) ⌝ }
-    requires { ⌜ (length (now bytes) - from) % 1024 ≡ 0 ⌝ }
+    requires { ⌜ from + blockBytes ≤ length (now bytes) ⌝ }
+    requires { ⌜ (length (now bytes) - from) % blockBytes ≡ 0 ⌝ }
     ensures { λ r. ⌜ r ≡ crcFrom running (drop from (now (bytes .entry))) ⌝ }
 {
-    let blocks = (bytes.len() - from) / 1024;
+    let blocks = (bytes.len() - from) / BLOCK;
     let mut sums = block_eighths(running, bytes, from);
     for k in 1..blocks {
         let sum = join_block(sums);
-        sums = block_eighths(sum, bytes, from + k * 1024);
+        sums = block_eighths(sum, bytes, from + k * BLOCK);
     }
     join_block(sums)
 }

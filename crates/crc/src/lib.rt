@@ -1,4 +1,5 @@
 // The sum of the DFU file suffix: CRC-32, reflected, with no final complement; and the join of two sums.
+use crate::eighths::BLOCK;
 ghost use Prim.Native.Nat.{_≤_};
 ghost use mathlib.Core.Path.{_≡_};
 ghost use lib.ListN.{length, drop};
@@ -61,7 +62,7 @@ fn odd_head(running: u32, bytes: &[u8], end: usize) -> u32
 pub fn sum_from(running: u32, bytes: &[u8]) -> u32
     ensures { λ r. ⌜ r ≡ crcFrom running (now (bytes .entry)) ⌝ }
 {
-    let odd = bytes.len() % 1024;
+    let odd = bytes.len() % BLOCK;
     if odd == bytes.len() {
         return head(running, bytes, odd);
     }

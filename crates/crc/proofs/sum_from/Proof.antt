@@ -5,6 +5,7 @@ use native.Mathlib.Omega.{arith}
 use borrow.Author.Needs.{needs}
 use lib.ListN.{length}
 use Rattle.crc.specs.Crc.{byteStep, crcFrom}
+use Rattle.crc.specs.Eighths.{blockBytes}
 use Rattle.crc.proofs.Folds.{fold-done}
 use Rattle.crc.proofs.sum_from.Statement.{statement}
 use Rattle.crc.proofs.sum_from.Tie as tie
@@ -16,7 +17,7 @@ returns : tie.Need-returns
 unfolding crcFrom
 returns c =
     let bytes = c .before .before .before .args .bytes .now in
-    sym (fold-done byteStep (c .head .result) bytes (length bytes % 1024) (omega arith)) ∙ c .head .ensures
+    sym (fold-done byteStep (c .head .result) bytes (length bytes % blockBytes) (omega arith)) ∙ c .head .ensures
 
 odd-head-requires : tie.Need-odd-head-requires
 odd-head-requires c κs = search needs

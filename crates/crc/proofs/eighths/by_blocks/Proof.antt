@@ -5,7 +5,7 @@ use native.Mathlib.Omega.{arith}
 use lib.ListN.{length, drop}
 use Rattle.crc.specs.Crc.{byteStep, crcFrom}
 use Rattle.crc.specs.Join.{pastHalves}
-use Rattle.crc.specs.Eighths.{JoinOf}
+use Rattle.crc.specs.Eighths.{blockBytes, eighthBits, JoinOf}
 use Rattle.crc.proofs.Folds.{fold-done}
 use Rattle.crc.proofs.Streams.{eighths-joined}
 use Rattle.crc.proofs.eighths.by_blocks.Statement.{statement}
@@ -15,7 +15,7 @@ abbrev Inv-loop : tie.InvT-loop
 Inv-loop running bytes from blocks sums₀ k₀ sums k =
     (length sums ≡ 8)
     × (k ≤ blocks)
-    × ((sum : ℕ) → JoinOf (pastHalves 1024) sums sum → crcFrom sum (drop (from + k * 1024) bytes) ≡ crcFrom running (drop from bytes))
+    × ((sum : ℕ) → JoinOf (pastHalves eighthBits) sums sum → crcFrom sum (drop (from + k * blockBytes) bytes) ≡ crcFrom running (drop from bytes))
 
 abbrev μ-loop : tie.MeasureT-loop
 μ-loop running bytes from blocks sums₀ k₀ sums k = blocks - k
@@ -30,7 +30,7 @@ loop-holds : tie.Need-loop-holds Inv-loop μ-loop
 loop-holds c = (
   c .block-eighths .ensures .long,
   omega arith,
-  λ sum j. eighths-joined (c .block-eighths .ensures) j refl (c .before .before .args .from + 1 * 1024) (omega arith) (omega arith),
+  λ sum j. eighths-joined (c .block-eighths .ensures) j refl (c .before .before .args .from + 1 * blockBytes) (omega arith) (omega arith),
 )
 
 join-block-requires : tie.Need-join-block-requires Inv-loop μ-loop
@@ -59,7 +59,7 @@ loop-again c =
       c .block-eighths2 .ensures .long,
       omega arith,
       λ sum j.
-          eighths-joined (c .block-eighths2 .ensures) j refl (from + (at .loop .k + 1) * 1024) (omega arith) (omega arith)
+          eighths-joined (c .block-eighths2 .ensures) j refl (from + (at .loop .k + 1) * blockBytes) (omega arith) (omega arith)
           ∙ at .loop .inv .2 (join .join-block .result) (join .join-block .ensures),
     )
 
@@ -72,7 +72,7 @@ returns c =
     let at = c .before .before in
     let args = at .before .before .before .args in
     let sum = c .join-block2 .result in
-    sym (fold-done byteStep sum (args .bytes .now) (args .from + at .loop .k * 1024) (omega arith)) ∙ at .loop .inv .2 sum (c .join-block2 .ensures)
+    sym (fold-done byteStep sum (args .bytes .now) (args .from + at .loop .k * blockBytes) (omega arith)) ∙ at .loop .inv .2 sum (c .join-block2 .ensures)
 
 pub by-blocks-spec : {M : Type 1} → statement M
 by-blocks-spec =

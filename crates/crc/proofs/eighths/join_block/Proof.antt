@@ -4,12 +4,13 @@ use mathlib.Core.Path.{refl, _∙_}
 use native.Mathlib.Omega.{arith}
 use borrow.Author.Needs.{needs}
 use Rattle.crc.specs.Join.{pastHalves}
+use Rattle.crc.specs.Eighths.{eighthBits}
 use Rattle.crc.proofs.Streams.{JoinLeft, join-next, join-done}
 use Rattle.crc.proofs.eighths.join_block.Statement.{statement}
 use Rattle.crc.proofs.eighths.join_block.Tie as tie
 
 abbrev Inv-loop : tie.InvT-loop
-Inv-loop sums half sum₀ s₀ sum s = (1 ≤ s) × (s ≤ 8) × JoinLeft (pastHalves 1024) sums sum s
+Inv-loop sums half sum₀ s₀ sum s = (1 ≤ s) × (s ≤ 8) × JoinLeft (pastHalves eighthBits) sums sum s
 
 abbrev μ-loop : tie.MeasureT-loop
 μ-loop sums half sum₀ s₀ sum s = 8 - s

@@ -9,7 +9,7 @@ use Rattle.crc.proofs.eighths.step_all.Statement.{statement}
 use Rattle.crc.proofs.eighths.step_all.Tie as tie
 
 abbrev Inv-loop : tie.InvT-loop
-Inv-loop remainder sums₀ s₀ sums s = (s ≤ 8) × (eachFrom (oneByteOn) sums s (8 - s) ≡ eachFrom (oneByteOn) sums₀ 0 8)
+Inv-loop remainder sums₀ s₀ sums s = (s ≤ 8) × (eachFrom oneByteOn sums s (8 - s) ≡ eachFrom oneByteOn sums₀ 0 8)
 
 abbrev μ-loop : tie.MeasureT-loop
 μ-loop remainder sums₀ s₀ sums s = 8 - s
