@@ -5,6 +5,7 @@ use crate::dice::Dice;
 use crate::histories::SMALL;
 use crate::lone;
 use crate::second::{command, state, Session, BLOCK, ERASED, INFO_STREAM, MOST_BLOCKS};
+use crate::sessions::INFO_BYTES;
 use crate::tape::{header, setup, QUERY};
 
 /// The setup bytes and the data.
@@ -184,7 +185,7 @@ fn any_status(dice: &mut Dice) -> Request {
 
 fn upload(dice: &mut Dice, session: &Session) -> Request {
     let stream = match (session.up_choice, session.up_prefix) {
-        (INFO_STREAM, _) => 20,
+        (INFO_STREAM, _) => INFO_BYTES,
         (_, prefix) => session.up_len + 8 * u32::from(prefix),
     };
     let left = stream - session.up_place;
@@ -193,6 +194,7 @@ fn upload(dice: &mut Dice, session: &Session) -> Request {
         1 => 1,
         2..=4 => 1 + dice.below(1_024),
         5 if left < 1_024 => (left + dice.below(3)).saturating_sub(1).max(1),
+        6..=8 if session.up_choice == INFO_STREAM => 1 + dice.below(INFO_BYTES),
         _ => 1_024,
     };
     request(0xA1, 2, length)
