@@ -6,8 +6,9 @@ use crate::histories::SMALL;
 use crate::second::{joined, state, status, Session};
 use crate::second::{BLOCK, FLASH_STREAM, INFO_STREAM, MOST_BLOCKS, NONE};
 
-/// As many bytes has the info stream.
+/// As many bytes has the info stream, and so many stand before its last number.
 pub const INFO_BYTES: u32 = 24;
+pub const INFO_BEFORE_LAST: u32 = 20;
 
 const STATES: [u8; 6] = [
     state::IDLE,
@@ -112,7 +113,7 @@ fn choose_upload(dice: &mut Dice, session: &mut Session) {
 }
 
 /// A place up to the stream's end, at times one from which address 65,536, place
-/// 65,536 or the last byte is read.
+/// 65,536, the last byte or the last of the info numbers is read.
 fn upload_place(dice: &mut Dice, session: &Session) -> u32 {
     let prefix = 8 * u32::from(session.up_prefix);
     let end = stream_end(session);
@@ -121,6 +122,8 @@ fn upload_place(dice: &mut Dice, session: &Session) -> u32 {
         0..=1 if (1_024..end).contains(&before) => before + prefix - 1 - dice.below(1_024),
         2 if end > 1 << 16 => (1 << 16) - 1 - dice.below(1_023),
         3 => end - 1 - dice.below(end.min(1_024)),
+        4 if session.up_choice == INFO_STREAM => INFO_BEFORE_LAST,
+        5 if session.up_choice == INFO_STREAM => INFO_BEFORE_LAST - 1 + dice.below(6),
         _ => between(dice, 0, end),
     }
 }

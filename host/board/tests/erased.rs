@@ -237,7 +237,8 @@ fn a_check_names_the_first_of_two() {
         for (from, length) in [(0, 37), (1_000, 1_037)] {
             let asked = check(2, length);
             let start = board.from + asked.start();
-            for (one, other) in (from..length).flat_map(|one| (one..length).map(move |b| (one, b))) {
+            for (one, other) in (from..length).flat_map(|one| (one..length).map(move |b| (one, b)))
+            {
                 (board.memory[start + one], board.memory[start + other]) = (0x7F, 0);
                 assert_eq!(board.ask(&asked), asked.awaited(Some(one as isize)));
                 board.memory[start..start + length].fill(ERASED);

@@ -34,10 +34,7 @@ const CASES: [(&str, Case); 33] = [
     ("upload whole", uploads::whole),
     ("upload what a command chose", uploads::chosen),
     ("upload from a board of the most blocks", uploads::far),
-    (
-        "upload where it was not erased",
-        uploads::where_not_erased,
-    ),
+    ("upload where it was not erased", uploads::where_not_erased),
     ("upload in small requests", uploads::small),
     ("upload onto a file that is there", uploads::onto_a_file),
     ("download odd lengths", downloads::odd_lengths),

@@ -169,7 +169,9 @@ fn arrived(wire: &Wire, plan: &Plan) -> Result<(), String> {
         false => (rest == kept, "what stood there"),
     };
     if image != plan.image || !whole {
-        return Err(format!("the application is not the image with {after} after it"));
+        return Err(format!(
+            "the application is not the image with {after} after it"
+        ));
     }
     if !plan.flash.starts_with(wire.boot_area()) {
         return Err("the boot area is not as it was".to_string());

@@ -108,7 +108,9 @@ mod tests {
     fn info_bytes_that_do_not_tell_are_no_place() {
         let info = |address: u32| [&[0, 4][..], &[0; 18], &address.to_le_bytes()].concat();
         assert!(place(&info(0x3_FFFF)).unwrap().ends_with("in block 255"));
-        assert!(place(&info(0)).unwrap().contains("address 0x0 (0), in block 0"));
+        assert!(place(&info(0))
+            .unwrap()
+            .contains("address 0x0 (0), in block 0"));
         let why = Err("its info bytes tell of none".to_string());
         assert_eq!(place(&info(NONE)), why);
         assert_eq!(place(&[0; 24]), why);

@@ -167,6 +167,8 @@ fn a_visit_without_an_erase_is_done_where_none_was_needed() {
         flash[16_384..16_384 + length].fill(0x31);
         assert_eq!((said.code, &*said.err), (Some(0), ""));
         assert_eq!(folder.get("a"), flash);
-        assert!(said.out.ends_with("Done: the image is in place and every sum is right.\n"));
+        assert!(said
+            .out
+            .ends_with("Done: the image is in place and every sum is right.\n"));
     }
 }

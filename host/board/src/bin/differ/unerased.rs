@@ -72,12 +72,12 @@ fn beside(seen: &Seen, range: &Range<u64>) -> (bool, bool) {
 impl Rows {
     pub fn unerased(&mut self) {
         for (name, asks) in SEARCHES {
-            self.found(name, asks);
+            self.address_found(name, asks);
             self.none_found(name, asks);
         }
         for (what, stood) in STOOD {
-            self.kept(what, stood);
-            self.told(what, stood);
+            self.address_kept(what, stood);
+            self.address_told(what, stood);
         }
         self.add("RESET, neither an address nor none stood", |seen| {
             seen.answered(answer::RESET_ASKED) && neither(seen.lent())
@@ -89,7 +89,7 @@ impl Rows {
         });
     }
 
-    fn found(&mut self, name: &str, asks: Asks) {
+    fn address_found(&mut self, name: &str, asks: Asks) {
         for (what, holds) in FOUND {
             self.command(format!("{name} found {what}"), move |seen, command| {
                 let found = seen.found.as_ref().filter(|_| asks(command));
@@ -100,14 +100,17 @@ impl Rows {
 
     fn none_found(&mut self, name: &str, asks: Asks) {
         for (what, holds) in NONE_FOUND {
-            self.command(format!("{name} found none, {what}"), move |seen, command| {
-                let none = seen.answered(answer::TAKEN) && seen.next().unerased == NONE;
-                none && asks(command) && holds(seen, &command.range())
-            });
+            self.command(
+                format!("{name} found none, {what}"),
+                move |seen, command| {
+                    let none = seen.answered(answer::TAKEN) && seen.next().unerased == NONE;
+                    none && asks(command) && holds(seen, &command.range())
+                },
+            );
         }
     }
 
-    fn kept(&mut self, what: &str, stood: Stood) {
+    fn address_kept(&mut self, what: &str, stood: Stood) {
         for (by, keeps) in KEEPS {
             self.add(format!("{what} kept by {by}"), move |seen| {
                 let kept = seen.next().unerased == seen.lent().unerased;
@@ -126,7 +129,7 @@ impl Rows {
         });
     }
 
-    fn told(&mut self, what: &str, stood: Stood) {
+    fn address_told(&mut self, what: &str, stood: Stood) {
         for (part, holds) in TOLD {
             self.add(format!("INFO tells {what}: {part}"), move |seen| {
                 let lent = seen.lent();
@@ -153,10 +156,9 @@ const SEARCHES: [(&str, Asks); 3] = [
 /// By the session that is lent.
 type Stood = fn(&Session) -> bool;
 
-const STOOD: [(&str, Stood); 3] = [
+const STOOD: [(&str, Stood); 2] = [
     ("an address", is_address),
     ("none", |lent| lent.unerased == NONE),
-    ("0", |lent| lent.unerased == 0),
 ];
 
 /// Of a byte of the application.
@@ -169,7 +171,9 @@ fn neither(lent: &Session) -> bool {
 }
 
 const FOUND: [(&str, fn(&Seen, &Found) -> bool); 23] = [
-    ("the first byte", |_, found| found.is_first() && found.long()),
+    ("the first byte", |_, found| {
+        found.is_first() && found.long()
+    }),
     ("the last byte", |_, found| found.is_last() && found.long()),
     ("the one byte of its range", |_, found| !found.long()),
     ("a byte in the middle of its first block", |_, found| {
@@ -190,7 +194,9 @@ const FOUND: [(&str, fn(&Seen, &Found) -> bool); 23] = [
     ("a byte at an address of more than 16 bits", |_, found| {
         found.at >> 16 > 0
     }),
-    ("a byte by one bit", |_, found| found.value.count_zeros() == 1),
+    ("a byte by one bit", |_, found| {
+        found.value.count_zeros() == 1
+    }),
     ("a byte that is alone", |_, found| found.more == (0, 0)),
     ("the first of two neighbours", |seen, found| {
         !found.is_last() && seen.dirty(found.at + 1..found.at + 2) == 1
@@ -198,19 +204,25 @@ const FOUND: [(&str, fn(&Seen, &Found) -> bool); 23] = [
     ("the first of several in its block alone", |_, found| {
         found.more.0 > 0 && found.more.1 == 0
     }),
-    ("a byte alone in its block, others behind that", |_, found| {
-        found.more.0 == 0 && found.more.1 > 0
-    }),
-    ("the first byte, the last not erased either", |seen, found| {
-        let Range { start, end } = found.range;
-        found.is_first() && start + 2 < end && seen.dirty(end - 1..end) == 1
-    }),
-    ("a byte, that before the range not erased either", |seen, found| {
-        beside(seen, &found.range).0
-    }),
-    ("a byte, that behind the range not erased either", |seen, found| {
-        beside(seen, &found.range).1
-    }),
+    (
+        "a byte alone in its block, others behind that",
+        |_, found| found.more.0 == 0 && found.more.1 > 0,
+    ),
+    (
+        "the first byte, the last not erased either",
+        |seen, found| {
+            let Range { start, end } = found.range;
+            found.is_first() && start + 2 < end && seen.dirty(end - 1..end) == 1
+        },
+    ),
+    (
+        "a byte, that before the range not erased either",
+        |seen, found| beside(seen, &found.range).0,
+    ),
+    (
+        "a byte, that behind the range not erased either",
+        |seen, found| beside(seen, &found.range).1,
+    ),
     ("a byte, none stood", |seen, _| seen.lent().unerased == NONE),
     ("a byte, 0 stood", |seen, _| seen.lent().unerased == 0),
     ("a byte, a lower address stood", |seen, found| {
@@ -281,9 +293,12 @@ const REFUSALS: [(&str, fn(&Seen, &Command) -> bool); 17] = [
     ("08: PROG before the application", |seen, command| {
         command.is(command::PROG) && command.range().start < seen.application().start
     }),
-    ("08: CHECK past the end, erased up to it", |seen, command| {
-        command.is(command::CHECK) && erased_up_to_the_end(seen, command) == Some(true)
-    }),
+    (
+        "08: CHECK past the end, erased up to it",
+        |seen, command| {
+            command.is(command::CHECK) && erased_up_to_the_end(seen, command) == Some(true)
+        },
+    ),
     ("08: CHECK past the end, not erased", |seen, command| {
         command.is(command::CHECK) && erased_up_to_the_end(seen, command) == Some(false)
     }),
@@ -368,9 +383,7 @@ fn taken(seen: &Seen, number: u8) -> bool {
 type Part = fn(u32, u32) -> bool;
 
 const TOLD: [(&str, Part); 7] = [
-    ("all at once", |place, end| {
-        place == 0 && end == INFO_BYTES
-    }),
+    ("all at once", |place, end| place == 0 && end == INFO_BYTES),
     ("up to its first byte", |place, end| {
         place < end && end == TOLD_AT
     }),
@@ -397,7 +410,9 @@ mod tests {
     /// these bytes alone are not erased. It is told the first of them.
     fn found(places: &[u64], length: u64) -> Option<Found> {
         let mut flash = [ERASED; 6 * 1_024];
-        places.iter().for_each(|place| flash[*place as usize] = 0xFE);
+        places
+            .iter()
+            .for_each(|place| flash[*place as usize] = 0xFE);
         Found::new(&flash, 2_048..2_048 + length, places[0])
     }
 
