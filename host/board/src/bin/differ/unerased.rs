@@ -132,10 +132,9 @@ impl Rows {
     fn address_told(&mut self, what: &str, stood: Stood) {
         for (part, holds) in TOLD {
             self.add(format!("INFO tells {what}: {part}"), move |seen| {
-                let lent = seen.lent();
-                let end = lent.up_place + seen.outcome.count;
+                let (lent, count) = (seen.lent(), seen.outcome.count);
                 let info = seen.upload.is_some() && lent.up_choice == INFO_STREAM;
-                info && stood(lent) && holds(lent.up_place, end)
+                info && stood(lent) && holds(lent.up_place, lent.up_place + count)
             });
         }
     }
