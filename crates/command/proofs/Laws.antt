@@ -3,15 +3,16 @@ use Prim.Native.Nat.{ℕ, _-_, _≤_}
 use mathlib.Core.Bool.{Bool, true, false, cond, _&&_}
 use mathlib.Core.List.{List}
 use mathlib.Core.Logic.{inl, ⊎-elim}
-use mathlib.Core.Path.{_≡_, refl, sym, subst}
+use mathlib.Core.Path.{_≡_, refl, sym, ap, subst, _∙_}
 use native.Mathlib.Omega.{arith}
 use borrow.Author.Tests.{leb-true, eqb-false, ne-eqb}
 use lib.Dec.{eqb, leb}
 use lib.ListN.{length, getD, drop, length-drop}
-use Rattle.flash.specs.Flash.{startOf, Within}
+use Rattle.flash.specs.Flash.{startOf, Within, searched, nothing, foundNumber}
+use Rattle.flash.specs.declared.Found.{Found}
 use Rattle.sums.specs.Sum.{Split}
 use Rattle.session.specs.Codes.{idle, downloadIdle, checkErased, address, vendor}
-use Rattle.session.specs.Session.{appEnd, freshOf}
+use Rattle.session.specs.Session.{appEnd, withUnerased, freshOf}
 use Rattle.session.specs.Rules.{inApplication}
 use Rattle.session.specs.declared.Session.{Session}
 use Rattle.session.proofs.Laws.{fit-kept, fit-facts, split-facts, end-in-flash, end-after-start, inside-facts}
@@ -44,6 +45,15 @@ module _ (s : Session) (f : List ℕ) (r : Ready s f) where
 
   pub ready-range : (block len : ℕ) → inApplication (s .board) block len ≡ true → Within f (startOf block) len
   ready-range block len e = ready-within (startOf block) len (ready-place block len e)
+
+-- what a search of a range tells, from its answer
+module _ (f : List ℕ) (block len : ℕ) (found : Found) (e : found ≡ searched f block len) where
+  pub told-erased : (r : Bool) → r ≡ nothing found → r ≡ allErased f block len
+  unfolding allErased
+  told-erased r h = h ∙ ap nothing e
+
+  pub told-number : (n : ℕ) → n ≡ foundNumber found → n ≡ foundNumber (searched f block len)
+  told-number n h = h ∙ ap foundNumber e
 
 -- a well-formed command has its eight bytes
 pub long-enough : (d : List ℕ) → wellFormed d ≡ true → 8 ≤ length d
@@ -83,16 +93,17 @@ module _ (s : Session) (f d : List ℕ) where
   pub only-can : (o : Outcome) → o .session .board ≡ s .board → Doable s f d (planOf o Job.Nothing)
   only-can o e = record { board = e; can = tt }
 
-  fault-can : (status : ℕ) → Doable s f d (faultPlan s status)
+  -- a fault of this session, or of this one with another number
+  fault-can : (n status : ℕ) → Doable s f d (faultPlan (withUnerased s n) status)
   unfolding faultOf movedTo
-  fault-can status = only-can (faultOf s status) refl
+  fault-can n status = only-can (faultOf (withUnerased s n) status) refl
 
 module _ (s : Session) (f d : List ℕ) (r : Ready s f) where
   wrote-can :
-      (at skip n left : ℕ) → skip ≤ length d → n ≡ length (drop skip d) → Place (s .board) at n
-      → Doable s f d (wroteOf s at skip n left)
+      (number at skip n left : ℕ) → skip ≤ length d → n ≡ length (drop skip d) → Place (s .board) at n
+      → Doable s f d (wroteOf (withUnerased s number) at skip n left)
   unfolding wroteOf movedTo
-  wrote-can at skip n left few e p = record { board = refl; can = (few, ready-split s f r, subst (Place (s .board) at) e p) }
+  wrote-can number at skip n left few e p = record { board = refl; can = (few, ready-split s f r, subst (Place (s .board) at) e p) }
 
   prog-can : 8 ≤ length d → (block len : ℕ) → Doable s f d (progOf s f block len (length d - 8))
   unfolding progOf
@@ -105,11 +116,11 @@ module _ (s : Session) (f d : List ℕ) (r : Ready s f) where
       let few : length d - 8 ≤ len = leb-true _ _ n in
       pick (Doable s f d) (allErased f block len) _ _
       (λ _.
-      wrote-can (startOf block) 8 (length d - 8) (len - (length d - 8)) long (sym (length-drop 8 d))
+      wrote-can _ (startOf block) 8 (length d - 8) (len - (length d - 8)) long (sym (length-drop 8 d))
       (record { low = omega arith; high = omega arith }))
-      (λ _. fault-can s f d checkErased))
-      (λ _. fault-can s f d address))
-      (λ _. fault-can s f d address)
+      (λ _. fault-can s f d _ checkErased))
+      (λ _. fault-can s f d (s .unerased) address))
+      (λ _. fault-can s f d (s .unerased) address)
 
   erase-can : (block count : ℕ) → Doable s f d (eraseOf s block count)
   unfolding eraseOf movedTo
@@ -118,7 +129,7 @@ module _ (s : Session) (f d : List ℕ) (r : Ready s f) where
       (λ i.
       let facts = inside-facts (s .board) block (startOf count) i in
       record { board = refl; can = (ready-split s f r, record { low = omega arith; high = facts .to }) })
-      (λ _. fault-can s f d address)
+      (λ _. fault-can s f d (s .unerased) address)
 
   -- the commands that change no flash keep the board
   read-board : (block len : ℕ) → readOf s block len .session .board ≡ s .board
@@ -161,14 +172,14 @@ module _ (s : Session) (f d : List ℕ) (r : Ready s f) where
       pick (Doable s f d) (leb (length d) (s .down .left)) _ _
       (λ n.
       let few : length d ≤ s .down .left = leb-true _ _ n in
-      wrote-can (s .down .place .0) 0 (length d) _ (omega arith) refl
+      wrote-can (s .unerased) (s .down .place .0) 0 (length d) _ (omega arith) refl
       (record { low = facts .place-from (inl here); high = omega (arith, facts .left-to (inl here), few) }))
-      (λ _. fault-can s f d address))
+      (λ _. fault-can s f d (s .unerased) address))
 
   pub dnload-can : Loading s → Doable s f d (dnloadOf s f d)
   unfolding dnloadOf commandOf
   dnload-can l =
       pick (Doable s f d) (eqb (s .phase .state .0) idle) _ _
       (λ _.
-      pick (Doable s f d) (wellFormed d) _ _ (λ g. numbered-can (long-enough d g) (getD d 0 0)) (λ _. fault-can s f d vendor))
+      pick (Doable s f d) (wellFormed d) _ _ (λ g. numbered-can (long-enough d g) (getD d 0 0)) (λ _. fault-can s f d (s .unerased) vendor))
       (λ n. ⊎-elim (λ e. absurd (eqb-false _ _ n e)) (λ e. piece-can e) (l .in-two))

@@ -1,13 +1,12 @@
 -- DNLOAD: the eight-byte commands in state idle, and pieces of data in state download idle.
 use Prim.Native.Nat.{ℕ, _+_, _-_}
-use mathlib.Core.Bool.{Bool, true, false, cond, _&&_, _||_}
+use mathlib.Core.Bool.{Bool, cond, _&&_, _||_}
 use mathlib.Core.List.{List}
 use lib.Dec.{eqb, leb}
 use lib.ListN.{length, getD}
-use Rattle.flash.specs.Flash.{startOf, searched}
-use Rattle.flash.specs.declared.Found.{Found}
+use Rattle.flash.specs.Flash.{startOf, searched, nothing, foundNumber}
 use Rattle.session.specs.Codes.{idle, downloadIdle, manifestSync, ok, checkErased, address, notDone, vendor}
-use Rattle.session.specs.Session.{phaseOf, downOf, noDownload, upOf, withUp, flashStream, infoBytes}
+use Rattle.session.specs.Session.{phaseOf, downOf, noDownload, upOf, withUp, withUnerased, flashStream, infoBytes}
 use Rattle.session.specs.Rules.{inApplication}
 use Rattle.session.specs.declared.Session.{Session}
 use Rattle.numbers.specs.Numbers.{wordAt, longAt}
@@ -17,14 +16,13 @@ use Rattle.answers.specs.Moves.{movedTo, toSync, takenOf, faultOf, resetOf}
 use Rattle.jobs.specs.declared.Job.{Job}
 use Rattle.jobs.specs.Job.{Plan, planOf, bytesTo, wipeOf}
 
--- whether a search found nothing
-abbrev pub nothing : Found → Bool
-nothing (Found.At at) = false
-nothing Found.Nothing = true
-
 -- whether a range of flash is all erased
 unfoldable pub allErased : List ℕ → ℕ → ℕ → Bool
 allErased flash block len = nothing (searched flash block len)
+
+-- the session with what a search of a range finds, by its number; it is noted whether or not all is erased
+abbrev pub noted : Session → List ℕ → ℕ → ℕ → Session
+noted s flash block len = withUnerased s (foundNumber (searched flash block len))
 
 -- n bytes of the call's data, behind the first few of it, go to their places, and the download goes on behind them with so many left
 unfoldable pub wroteOf : Session → ℕ → ℕ → ℕ → ℕ → Plan
@@ -37,9 +35,10 @@ faultPlan s status = planOf (faultOf s status) Job.Nothing
 -- PROG: starts a download; the n bytes of the request behind its eight are its first data
 unfoldable pub progOf : Session → List ℕ → ℕ → ℕ → ℕ → Plan
 progOf s flash block len n =
+    let t = noted s flash block len in
     cond (inApplication (s .board) block len)
     (cond (leb n len)
-    (cond (allErased flash block len) (wroteOf s (startOf block) 8 n (len - n)) (faultPlan s checkErased))
+    (cond (allErased flash block len) (wroteOf t (startOf block) 8 n (len - n)) (faultPlan t checkErased))
     (faultPlan s address))
     (faultPlan s address)
 
@@ -53,8 +52,9 @@ readOf s block len =
 -- CHECK: faults unless all erased
 unfoldable pub checkOf : Session → List ℕ → ℕ → ℕ → Outcome
 checkOf s flash block len =
+    let t = noted s flash block len in
     cond (inApplication (s .board) block len)
-    (cond (allErased flash block len) (takenOf (toSync s idle noDownload)) (faultOf s checkErased))
+    (cond (allErased flash block len) (takenOf (toSync t idle noDownload)) (faultOf t checkErased))
     (faultOf s address)
 
 -- ERASE: sets the blocks to 0xFF

@@ -3,7 +3,6 @@
 use answers::Heard;
 use flash::Addr;
 use flash::Block;
-use flash::Found;
 use jobs::Decision;
 use jobs::Job;
 use request::Command;
@@ -16,24 +15,12 @@ ghost use Prim.Native.Nat.{_+_, _≤_, _<_};
 ghost use mathlib.Core.Path.{_≡_};
 ghost use mathlib.Core.Bool.{true};
 ghost use lib.ListN.{length, getD};
-ghost use Rattle.flash.specs.Flash.{startOf};
 ghost use Rattle.session.specs.Rules.{fitOf};
 ghost use Rattle.answers.specs.Answers.{heardAt};
 ghost use Rattle.jobs.specs.Job.{planned};
 ghost use Rattle.command.specs.Ready.{Ready, Loading};
-ghost use Rattle.command.specs.Download.{allErased, wroteOf, faultPlan, progOf, readOf, checkOf, eraseOf};
+ghost use Rattle.command.specs.Download.{wroteOf, faultPlan, progOf, readOf, checkOf, eraseOf};
 ghost use Rattle.command.specs.Download.{infoOf, prefixFor, binOf, wellFormed, byNumber, commandOf, closedOf, pieceOf, dnloadOf};
-
-fn erased(flash: &[u8], block: Block, len: u32) -> bool
-    requires { ⌜ startOf (block .0) + len ≤ length (now flash) ⌝ }
-    requires { ⌜ startOf (block .0) + len < 4294967296 ⌝ }
-    ensures { λ r. ⌜ r ≡ allErased (now (flash .entry)) (block .0) len ⌝ }
-{
-    match flash::search(flash, block, len) {
-        Found::At(_) => false,
-        Found::Nothing => true,
-    }
-}
 
 // The call's data, but for the first `skip` bytes of it, is to go to its places, and the download goes on behind these n bytes.
 fn write(s: Session, at: Addr, skip: u32, n: u32, left: u32) -> Decision
@@ -73,10 +60,14 @@ fn prog(s: Session, flash: &[u8], block: Block, len: u32, n: usize) -> Decision
     if (len as usize) < n {
         return fault(s, Status::ADDRESS);
     }
-    if !erased(flash, block, len) {
-        return fault(s, Status::CHECK_ERASED);
+    let found = flash::search(flash, block, len);
+    let number = found.number();
+    let mut t = s;
+    t.unerased = number;
+    if !found.nothing() {
+        return fault(t, Status::CHECK_ERASED);
     }
-    write(s, block.start(), 8, n as u32, len - n as u32)
+    write(t, block.start(), 8, n as u32, len - n as u32)
 }
 
 fn read(s: Session, block: Block, len: u32) -> Heard
@@ -99,10 +90,14 @@ fn check(s: Session, flash: &[u8], block: Block, len: u32) -> Heard
     if !session::in_application(s.board, block, len) {
         return answers::faulted(s, Status::ADDRESS);
     }
-    if erased(flash, block, len) {
-        return answers::taken(answers::sync(s));
+    let found = flash::search(flash, block, len);
+    let number = found.number();
+    let mut t = s;
+    t.unerased = number;
+    if found.nothing() {
+        return answers::taken(answers::sync(t));
     }
-    answers::faulted(s, Status::CHECK_ERASED)
+    answers::faulted(t, Status::CHECK_ERASED)
 }
 
 // Blocks are as many bytes as lie before the block of their number.

@@ -129,6 +129,24 @@ module _ (f : List ℕ) (from n : ℕ) (h : from + n ≤ length f) where
     pub ahead-passed : Ahead f from n next
     ahead-passed = ahead-by (next - at) next (omega arith) (omega (arith, p .low))
 
+  -- past bytes that are erased one by one, to the first that isn't
+  module _ (each : ℕ) (most : each ≤ n) (erased : (j : ℕ) → from ≤ j → j < from + each → getD f j 0 ≡ 255) where
+    ahead-each : (k to : ℕ) → k ≤ each → from + k ≡ to → Ahead f from n to
+    ahead-each zero to le e = ahead-from f from n to (omega arith)
+    ahead-each (suc k) to le e =
+        let one : from + k + 1 ≡ to = omega arith in
+        let there = ahead-each k (from + k) (omega arith) refl in
+        subst (Ahead f from n) one (ahead-one (from + k) (omega arith) (erased (from + k) (omega arith) (omega arith)) there)
+
+  pub first-found :
+      (at : ℕ) → from ≤ at → at < from + n → (getD f at 0 ≡ 255 → ⊥) → ((j : ℕ) → from ≤ j → j < at → getD f j 0 ≡ 255)
+      → firstIn from (range f from n) ≡ Found.At (record { 0 = at })
+  first-found at low lt ne erased =
+      let each = at - from in
+      sym
+      (ahead-found from refl at lt ne
+      (ahead-each each (omega arith) (λ j h k. erased j h (omega arith)) each at (omega arith) (omega arith)))
+
 -- nothing found: all bytes are erased
 all-erased : (at : ℕ) (xs : List ℕ) → firstIn at xs ≡ Found.Nothing → xs ≡ blank (length xs)
 unfolding firstIn blank

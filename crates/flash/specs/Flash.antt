@@ -1,6 +1,6 @@
 -- Flash as a list of bytes, and what erasing, programming and searching leave of it or find in it.
 use Prim.Native.Nat.{ℕ, _+_, _-_, _*_, _/_, _^_, _≤_, _<_}
-use mathlib.Core.Bool.{Bool, cond, _&&_}
+use mathlib.Core.Bool.{Bool, true, false, cond, _&&_}
 use mathlib.Core.Path.{_≡_}
 use mathlib.Core.List.{List, [], _∷_, _++_}
 use lib.Dec.{ltb, leb, eqb}
@@ -75,6 +75,20 @@ firstIn at (b ∷ bs) = cond (eqb b erasedByte) (firstIn (at + 1) bs) (Found.At 
 -- the first byte that is not erased among the n bytes from block first on
 unfoldable pub searched : List ℕ → ℕ → ℕ → Found
 searched flash first n = firstIn (startOf first) (range flash (startOf first) n)
+
+-- whether a search found nothing
+abbrev pub nothing : Found → Bool
+nothing (Found.At at) = false
+nothing Found.Nothing = true
+
+-- the number that says there is none
+abbrev pub nowhere : ℕ
+nowhere = 0xFFFFFFFF
+
+-- the number of what a search found: the address, or that there is none
+abbrev pub foundNumber : Found → ℕ
+foundNumber (Found.At at) = at .0
+foundNumber Found.Nothing = nowhere
 
 -- the eight bytes from address at on as one number, low byte first
 abbrev pub eightAt : List ℕ → ℕ → ℕ

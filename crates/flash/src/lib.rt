@@ -4,7 +4,7 @@ ghost use Prim.Native.Nat.{_+_, _<_, _≤_, _^_};
 ghost use mathlib.Core.Path.{_≡_};
 ghost use lib.ListN.{length, set};
 ghost use Rattle.flash.specs.Flash.{startOf, reachOf, liesIn, endsAt, holderOf, Within};
-ghost use Rattle.flash.specs.Flash.{blank, spliced, erased, range, firstIn, searched, eightAt, Passed};
+ghost use Rattle.flash.specs.Flash.{blank, spliced, erased, range, firstIn, searched, nothing, foundNumber, eightAt, Passed};
 
 // The bytes of a block.
 pub const BLOCK: u32 = 1024;
@@ -95,6 +95,30 @@ impl Addr {
             return false;
         };
         (low.0 <= self.0) & ((self.0 as u64) + (n as u64) <= high.0 as u64)
+    }
+}
+
+impl Found {
+    // The number that says there is none. No flash has a byte at this address: its length would not be a 32-bit number.
+    pub const NOWHERE: u32 = 0xFFFF_FFFF;
+
+    pub fn nothing(self) -> bool
+        ensures { λ r. ⌜ r ≡ nothing self ⌝ }
+    {
+        match self {
+            Found::At(_) => false,
+            Found::Nothing => true,
+        }
+    }
+
+    // What was found as one number, to be kept and told.
+    pub fn number(self) -> u32
+        ensures { λ r. ⌜ r ≡ foundNumber self ⌝ }
+    {
+        match self {
+            Found::At(at) => at.0,
+            Found::Nothing => Found::NOWHERE,
+        }
     }
 }
 

@@ -119,6 +119,7 @@ pub fn finished(s: Session, x: Decision, flash: &[u8], d: &[u8]) -> Outcome
             phase: phase,
             down: down,
             up: up,
+            unerased: talk.unerased,
             sums: sums,
         },
     }

@@ -68,7 +68,7 @@ module _ (s : Session) (f : List ℕ) (r : Ready s f) where
       let far = stream-most s fit in
       let here = place-in-stream in
       let ends = end-in-flash (s .board) in
-      let long = next-length (s .board) (s .up) f (omega (arith, fit .range-to, r .sized)) (placeOf s) asked in
+      let long = next-length (s .board) (s .unerased) (s .up) f (omega (arith, fit .range-to, r .sized)) (placeOf s) asked in
       omega arith
 
 -- a start that is allowed

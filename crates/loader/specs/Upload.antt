@@ -18,7 +18,7 @@ placeOf s = cond (eqb (s .phase .state .0) uploadIdle) (s .up .place) 0
 
 -- the next bytes of the chosen stream, as many as were asked for or are left
 unfoldable pub answerOf : Session → List ℕ → ℕ → List ℕ
-answerOf s flash asked = nextOf (s .board) (s .up) flash (placeOf s) asked
+answerOf s flash asked = nextOf (s .board) (s .unerased) (s .up) flash (placeOf s) asked
 
 -- whether an upload ends with an answer: by the guide, one that was asked for fewer than 1,024 bytes
 unfoldable pub uploadEnds : ℕ → ℕ → Bool

@@ -55,7 +55,7 @@ pub fn upload(s: Session, flash: &[u8], asked: u32, reply: &mut [u8]) -> Heard
     ensures { λ r. ⌜ replied (heardAt s r) (now (reply .exit)) ≡ uploadOf s (now (flash .entry)) asked (now (reply .entry)) ⌝ }
 {
     let from = place(s);
-    let n = stream::send(s.board, s.up, flash, from, asked, reply);
+    let n = stream::send(s.board, s.unerased, s.up, flash, from, asked, reply);
     Heard {
         answer: Answer::Taken,
         count: n,

@@ -23,7 +23,7 @@ use Rattle.session.specs.declared.Session.{Session}
 use Rattle.session.specs.Codes.{idle, downloadSync, downloadIdle, manifestSync, uploadIdle, error}
 use Rattle.session.specs.Codes.{states, isIn, placeIn, knownState, columnOf}
 use Rattle.session.specs.Codes.{ok, checkErased, address, notDone, vendor, stalled, errorStatus}
-use Rattle.session.specs.Session.{appEnd, noDownload, downOf, withSums, wholeUpload, freshOf, zerosOf}
+use Rattle.session.specs.Session.{appEnd, noDownload, downOf, withUnerased, withSums, wholeUpload, freshOf, zerosOf}
 use Rattle.session.specs.Session.{flashStream, infoBytes, infoLength, prefixLength, streamLength}
 use Rattle.session.specs.Rules.{inApplication, splitRule, stateRule, statusRule, running, downloadRule, uploadRule}
 use Rattle.session.specs.Rules.{afterRule, rangeRule, placeRule, flagsRule, fitOf}
@@ -396,6 +396,11 @@ facts-fit s f =
 pub sums-free : (s : Session) (sums : Sums) → fitOf (withSums s sums) ≡ fitOf s
 unfolding fitOf
 sums-free s sums = refl
+
+-- nor does what the last search found
+pub unerased-free : (s : Session) (unerased : ℕ) → fitOf (withUnerased s unerased) ≡ fitOf s
+unfolding fitOf
+unerased-free s unerased = refl
 
 -- the session of zeros is unfit
 pub zeros-unfit : fitOf zerosOf ≡ false

@@ -64,7 +64,7 @@ placeRule board phase down =
 abbrev pub flagsRule : Upload → Bool
 flagsRule up = leb (up .choice) 1 && leb (up .«prefix») 1
 
--- a session that keeps them all; the part numbers and the kept sums aren't judged
+-- a session that keeps them all; the part numbers, the number of the last search and the kept sums aren't judged
 unfoldable pub fitOf : Session → Bool
 fitOf s =
     splitRule (s .board)

@@ -4,7 +4,7 @@ use Prim.Native.Nat.{ℕ, _+_, _-_, _*_}
 use mathlib.Core.Bool.{Bool, cond, _&&_}
 use lib.Dec.{eqb, leb, ltb}
 use lib.ListN.{replicate}
-use Rattle.flash.specs.Flash.{blockSize}
+use Rattle.flash.specs.Flash.{blockSize, nowhere}
 use Rattle.sums.specs.declared.Sums.{Sums}
 use Rattle.sums.specs.Sum.{mostBlocks}
 use Rattle.session.specs.declared.Board.{Board}
@@ -54,7 +54,7 @@ upOf choice pre first len place =
 
 -- how many the info bytes are
 abbrev pub infoLength : ℕ
-infoLength = 20
+infoLength = 24
 
 -- how many bytes the prefix has: a PROG header, if it is on
 abbrev pub prefixLength : Upload → ℕ
@@ -66,31 +66,48 @@ streamLength up = cond (eqb (up .choice) infoBytes) infoLength (prefixLength up 
 
 -- the session with other groups in the place of its own
 abbrev pub withPhase : Session → Phase → Session
-withPhase s phase = record { board = s .board; phase = phase; down = s .down; up = s .up; sums = s .sums }
+withPhase s phase =
+    record { board = s .board; phase = phase; down = s .down; up = s .up; unerased = s .unerased; sums = s .sums }
 
 abbrev pub withDown : Session → Download → Session
-withDown s down = record { board = s .board; phase = s .phase; down = down; up = s .up; sums = s .sums }
+withDown s down =
+    record { board = s .board; phase = s .phase; down = down; up = s .up; unerased = s .unerased; sums = s .sums }
 
 abbrev pub withUp : Session → Upload → Session
-withUp s up = record { board = s .board; phase = s .phase; down = s .down; up = up; sums = s .sums }
+withUp s up =
+    record { board = s .board; phase = s .phase; down = s .down; up = up; unerased = s .unerased; sums = s .sums }
+
+abbrev pub withUnerased : Session → ℕ → Session
+withUnerased s unerased =
+    record { board = s .board; phase = s .phase; down = s .down; up = s .up; unerased = unerased; sums = s .sums }
 
 abbrev pub withSums : Session → Sums → Session
-withSums s sums = record { board = s .board; phase = s .phase; down = s .down; up = s .up; sums = sums }
+withSums s sums =
+    record { board = s .board; phase = s .phase; down = s .down; up = s .up; unerased = s .unerased; sums = sums }
 
 -- the talk of a session, and the session with another talk in the place of its own
 abbrev pub talkOf : Session → Talk
-talkOf s = record { phase = s .phase; down = s .down; up = s .up }
+talkOf s = record { phase = s .phase; down = s .down; up = s .up; unerased = s .unerased }
 
 abbrev pub withTalk : Session → Talk → Session
-withTalk s talk = record { board = s .board; phase = talk .phase; down = talk .down; up = talk .up; sums = s .sums }
+withTalk s talk =
+    record {
+      board = s .board;
+      phase = talk .phase;
+      down = talk .down;
+      up = talk .up;
+      unerased = talk .unerased;
+      sums = s .sums;
+    }
 
 -- the upload of a fresh session: the flash stream with its prefix, over all of the application
 unfoldable pub wholeUpload : Board → Upload
 wholeUpload board = upOf flashStream 1 (board .a .0) ((appEnd board - board .a .0) * blockSize) 0
 
--- the talk of a fresh session
+-- the talk of a fresh session: no search has found anything
 abbrev pub freshTalk : Board → Talk
-freshTalk board = record { phase = phaseOf idle ok idle; down = noDownload; up = wholeUpload board }
+freshTalk board =
+    record { phase = phaseOf idle ok idle; down = noDownload; up = wholeUpload board; unerased = nowhere }
 
 -- the fresh session
 unfoldable pub freshOf : Board → Sums → Session
@@ -100,6 +117,7 @@ freshOf board sums =
       phase = freshTalk board .phase;
       down = freshTalk board .down;
       up = freshTalk board .up;
+      unerased = freshTalk board .unerased;
       sums = sums;
     }
 
@@ -111,5 +129,6 @@ zerosOf =
       phase = phaseOf 0 0 0;
       down = noDownload;
       up = upOf 0 0 0 0 0;
+      unerased = 0;
       sums = record { block = replicate mostBlocks 0; whole = 0 };
     }

@@ -2,6 +2,7 @@
 // It holds numbers only, so any bytes that a board lends are a session, and a broken one is unfit and nothing worse.
 use flash::Addr;
 use flash::Block;
+use flash::Found;
 use flash::Reach;
 use sums::MOST;
 use sums::Sums;
@@ -15,7 +16,7 @@ ghost use Rattle.session.specs.Rules.{afterRule, inApplication, rangeRul
 // The bytes of the prefix, and how many the info bytes are.
 const PREFIX_LENGTH: u64 = 8;
 
-const INFO_LENGTH: u64 = 20;
+const INFO_LENGTH: u64 = 24;
 
 #[repr(C)]
 pub struct State(pub u8);
@@ -120,6 +121,7 @@ pub struct Talk {
     pub phase: Phase,
     pub down: Download,
     pub up: Upload,
+    pub unerased: u32,
 }
 
 #[repr(C)]
@@ -128,6 +130,8 @@ pub struct Session {
     pub phase: Phase,
     pub down: Download,
     pub up: Upload,
+    // What the last search found, by its number. Kept to be told by INFO, so no rule judges it.
+    pub unerased: u32,
     pub sums: Sums,
 }
 
@@ -170,6 +174,7 @@ pub fn talk_of(s: Session) -> Talk
         phase: phase,
         down: down,
         up: up,
+        unerased: s.unerased,
     }
 }
 
@@ -198,6 +203,7 @@ pub fn fresh_talk(board: Board) -> Talk
             len: len,
             place: 0,
         },
+        unerased: Found::NOWHERE,
     }
 }
 
@@ -222,6 +228,7 @@ impl Session {
             phase: phase,
             down: down,
             up: up,
+            unerased: talk.unerased,
             sums: sums,
         }
     }
@@ -254,6 +261,7 @@ pub fn zeros() -> Session
             len: 0,
             place: 0,
         },
+        unerased: 0,
         sums: Sums {
             block: [0; MOST],
             whole: 0,

@@ -16,7 +16,7 @@ use Rattle.sums.specs.Sum.{mostBlocks}
 use Rattle.session.specs.declared.Board.{Board}
 use Rattle.session.specs.declared.Upload.{Upload}
 use Rattle.session.specs.declared.Session.{Session}
-use Rattle.session.specs.Session.{boardOf, appEnd, upOf, flashStream, infoBytes, infoLength, prefixLength, streamLength}
+use Rattle.session.specs.Session.{boardOf, appEnd, upOf, flashStream, infoBytes, infoLength, prefixLength, streamLength, freshTalk}
 use Rattle.session.specs.Fit.{Fit}
 use Rattle.session.proofs.Laws.{end-in-flash}
 use Rattle.request.specs.Commands.{prog}
@@ -33,14 +33,14 @@ unfolding prefixOf
 prefix-off up n = rw (ne-eqb _ _ n)
 
 -- the stream, and how many bytes it is said to have
-module _ (board : Board) (up : Upload) (flash : List ℕ) where
-  pub info-chosen : up .choice ≡ infoBytes → streamOf board up flash ≡ infoStream board
+module _ (board : Board) (unerased : ℕ) (up : Upload) (flash : List ℕ) where
+  pub info-chosen : up .choice ≡ infoBytes → streamOf board unerased up flash ≡ infoStream board unerased
   unfolding streamOf
   info-chosen h = rw h
 
   pub flash-chosen :
       (up .choice ≡ infoBytes → ⊥)
-      → streamOf board up flash ≡ prefixOf up ++ range flash (startOf (up .first .0)) (up .len)
+      → streamOf board unerased up flash ≡ prefixOf up ++ range flash (startOf (up .first .0)) (up .len)
   unfolding streamOf
   flash-chosen n = rw (ne-eqb _ _ n)
 
@@ -53,9 +53,9 @@ pub header-length : (up : Upload) → length (headerOf up) ≡ 8
 unfolding headerOf
 header-length up = refl
 
-pub info-stream-length : (board : Board) → length (infoStream board) ≡ infoLength
+pub info-stream-length : (board : Board) (unerased : ℕ) → length (infoStream board unerased) ≡ infoLength
 unfolding infoStream
-info-stream-length board = refl
+info-stream-length board unerased = refl
 
 picked-length : (t : Bool) (x y : List ℕ) → length (cond t x y) ≡ cond t (length x) (length y)
 picked-length true x y = refl
@@ -73,20 +73,22 @@ pub parts-sum :
 parts-sum up flash head body h e f =
     ap₂ _+_ (ap length e ∙ prefix-length up) (ap length f ∙ length-range flash (startOf (up .first .0)) (up .len) h)
 
-module _ (board : Board) (up : Upload) (flash : List ℕ) (inside : startOf (up .first .0) + up .len ≤ length flash) where
-  pub stream-length : length (streamOf board up flash) ≡ streamLength up
+module _
+    (board : Board) (unerased : ℕ) (up : Upload) (flash : List ℕ)
+    (inside : startOf (up .first .0) + up .len ≤ length flash) where
+  pub stream-length : length (streamOf board unerased up flash) ≡ streamLength up
   unfolding streamOf streamLength
   stream-length =
-      picked-length (eqb (up .choice) infoBytes) (infoStream board) _
-      ∙ ap₂ (cond (eqb (up .choice) infoBytes)) (info-stream-length board)
+      picked-length (eqb (up .choice) infoBytes) (infoStream board unerased) _
+      ∙ ap₂ (cond (eqb (up .choice) infoBytes)) (info-stream-length board unerased)
       (length-append (prefixOf up) _ ∙ parts-sum up flash _ _ inside refl refl)
 
   -- each answer is as many as were asked for, or all that are left
   pub next-length :
-      (place asked : ℕ) → length (nextOf board up flash place asked) ≡ min asked (streamLength up - place)
+      (place asked : ℕ) → length (nextOf board unerased up flash place asked) ≡ min asked (streamLength up - place)
   unfolding nextOf
   next-length place asked =
-      part-length (streamOf board up flash) place asked ∙ ap (λ (n : ℕ). min asked (n - place)) stream-length
+      part-length (streamOf board unerased up flash) place asked ∙ ap (λ (n : ℕ). min asked (n - place)) stream-length
 
 -- what the header says, read back as a command
 module _ (up : Upload) where
@@ -135,19 +137,20 @@ unfolding prefixOf headerOf
 prefix-example = refl
 
 pub answers-example :
-    (board : Board) (flash : List ℕ) → startOf 16 + 2000 ≤ length flash
-    → (length (nextOf board (upOf flashStream 1 16 2000 0) flash 0 1024) ≡ 1024)
-    × (length (nextOf board (upOf flashStream 1 16 2000 0) flash 1024 1024) ≡ 984)
+    (board : Board) (unerased : ℕ) (flash : List ℕ) → startOf 16 + 2000 ≤ length flash
+    → (length (nextOf board unerased (upOf flashStream 1 16 2000 0) flash 0 1024) ≡ 1024)
+    × (length (nextOf board unerased (upOf flashStream 1 16 2000 0) flash 1024 1024) ≡ 984)
 unfolding streamLength
-answers-example board flash h =
+answers-example board unerased flash h =
     let up = upOf flashStream 1 16 2000 0 in
-    (next-length board up flash h 0 1024, next-length board up flash h 1024 1024)
+    (next-length board unerased up flash h 0 1024, next-length board unerased up flash h 1024 1024)
 
--- desk example 14: the info bytes of A = 16, B = 64, part numbers zero
+-- desk example 14: the info bytes of a fresh session with A = 16, B = 64, part numbers zero
 pub info-example :
-    infoStream (boardOf 16 64 0 0)
+    infoStream (boardOf 16 64 0 0) (freshTalk (boardOf 16 64 0 0) .unerased)
     ≡ 0x00 ∷ 0x04 ∷ 0x40 ∷ 0x00
     ∷ 0x00 ∷ 0x00 ∷ 0x00 ∷ 0x00 ∷ 0x00 ∷ 0x00 ∷ 0x00 ∷ 0x00
-    ∷ 0x00 ∷ 0x00 ∷ 0x01 ∷ 0x00 ∷ 0x00 ∷ 0x40 ∷ 0x00 ∷ 0x00 ∷ []
+    ∷ 0x00 ∷ 0x00 ∷ 0x01 ∷ 0x00 ∷ 0x00 ∷ 0x40 ∷ 0x00 ∷ 0x00
+    ∷ 0xFF ∷ 0xFF ∷ 0xFF ∷ 0xFF ∷ []
 unfolding infoStream appEnd
 info-example = refl

@@ -21,27 +21,29 @@ headerOf up = (prog ∷ 0 ∷ []) ++ bytes2 (up .first .0) ++ bytes4 (up .len)
 unfoldable pub prefixOf : Upload → List ℕ
 prefixOf up = cond (eqb (up .«prefix») 1) (headerOf up) []
 
--- the info bytes: block size and B, 16 bits each, the two part numbers, where the application ends and where it starts
-unfoldable pub infoStream : Board → List ℕ
-infoStream board =
+-- the info bytes: block size and B, 16 bits each, the two part numbers, where the application ends and where it starts, and the number
+-- of what the last search found
+unfoldable pub infoStream : Board → ℕ → List ℕ
+infoStream board unerased =
     bytes2 blockSize
     ++ bytes2 (board .b .0)
     ++ bytes4 (board .part0)
     ++ bytes4 (board .part1)
     ++ bytes4 (startOf (appEnd board))
     ++ bytes4 (startOf (board .a .0))
+    ++ bytes4 unerased
 
 -- the flash stream: the prefix and then the range
 abbrev pub rangeStream : Upload → List ℕ → List ℕ
 rangeStream up flash = prefixOf up ++ range flash (startOf (up .first .0)) (up .len)
 
 -- the chosen stream: the info bytes, or the flash stream
-unfoldable pub streamOf : Board → Upload → List ℕ → List ℕ
-streamOf board up flash = cond (eqb (up .choice) infoBytes) (infoStream board) (rangeStream up flash)
+unfoldable pub streamOf : Board → ℕ → Upload → List ℕ → List ℕ
+streamOf board unerased up flash = cond (eqb (up .choice) infoBytes) (infoStream board unerased) (rangeStream up flash)
 
 -- the next bytes of the stream from a place on: as many as were asked for, or all that are left
-unfoldable pub nextOf : Board → Upload → List ℕ → ℕ → ℕ → List ℕ
-nextOf board up flash place asked = take asked (drop place (streamOf board up flash))
+unfoldable pub nextOf : Board → ℕ → Upload → List ℕ → ℕ → ℕ → List ℕ
+nextOf board unerased up flash place asked = take asked (drop place (streamOf board unerased up flash))
 
 -- what there has to be for an answer: a read range in the application, the application in flash, a place in the stream, and room
 -- for what is asked

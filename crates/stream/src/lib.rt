@@ -12,9 +12,9 @@ ghost use Rattle.session.specs.Session.{appEnd, infoLength, prefixLength};
 ghost use Rattle.stream.specs.Stream.{headerOf, infoStream, rangeStream, nextOf, Sendable, Sent};
 
 // The info bytes.
-fn info(board: Board) -> [u8; 20]
+fn info(board: Board, unerased: u32) -> [u8; 24]
     requires { ⌜ (startOf (appEnd board) < 2 ^ 32) × (startOf (board .a .0) < 2 ^ 32) ⌝ }
-    ensures { λ r. ⌜ r ≡ infoStream board ⌝ }
+    ensures { λ r. ⌜ r ≡ infoStream board unerased ⌝ }
 {
     let size = numbers::low2(BLOCK);
     let blocks = numbers::low2(board.b.0);
@@ -22,6 +22,7 @@ fn info(board: Board) -> [u8; 20]
     let part1 = numbers::low4(board.part1);
     let end = numbers::low4(session::app_end(board).start().0);
     let begin = numbers::low4(board.a.start().0);
+    let found = numbers::low4(unerased);
     [
         size.0,
         size.1,
@@ -43,6 +44,10 @@ fn info(board: Board) -> [u8; 20]
         begin.1,
         begin.2,
         begin.3,
+        found.0,
+        found.1,
+        found.2,
+        found.3,
     ]
 }
 
@@ -98,12 +103,19 @@ fn give(head: &[u8], body: &[u8], place: u32, asked: u32, reply: &mut [u8]) -> u
 }
 
 // The info bytes have no second part.
-fn send_info(board: Board, flash: &[u8], place: u32, asked: u32, reply: &mut [u8]) -> u32
+fn send_info(
+    board: Board,
+    unerased: u32,
+    flash: &[u8],
+    place: u32,
+    asked: u32,
+    reply: &mut [u8],
+) -> u32
     requires { ⌜ (startOf (appEnd board) < 2 ^ 32) × (startOf (board .a .0) < 2 ^ 32) ⌝ }
     requires { ⌜ (place ≤ infoLength) × (asked ≤ length (now reply)) ⌝ }
-    ensures { λ r. ⌜ Sent r (now (reply .entry)) (now (reply .exit)) (take asked (drop place (infoStream board))) ⌝ }
+    ensures { λ r. ⌜ Sent r (now (reply .entry)) (now (reply .exit)) (take asked (drop place (infoStream board unerased))) ⌝ }
 {
-    let bytes = info(board);
+    let bytes = info(board, unerased);
     give(&bytes, &flash[0..0], place, asked, reply)
 }
 
@@ -132,12 +144,20 @@ fn send_range(up: Upload, flash: &[u8], place: u32, asked: u32, reply: &mut [u8]
 }
 
 // The next bytes of the chosen stream to the front of the reply, and how many they are.
-pub fn send(board: Board, up: Upload, flash: &[u8], place: u32, asked: u32, reply: &mut [u8]) -> u32
+pub fn send(
+    board: Board,
+    unerased: u32,
+    up: Upload,
+    flash: &[u8],
+    place: u32,
+    asked: u32,
+    reply: &mut [u8],
+) -> u32
     requires { ⌜ Sendable board up (now flash) place asked (length (now reply)) ⌝ }
-    ensures { λ r. ⌜ Sent r (now (reply .entry)) (now (reply .exit)) (nextOf board up (now (flash .entry)) place asked) ⌝ }
+    ensures { λ r. ⌜ Sent r (now (reply .entry)) (now (reply .exit)) (nextOf board unerased up (now (flash .entry)) place asked) ⌝ }
 {
     if up.choice == Upload::INFO_BYTES {
-        send_info(board, flash, place, asked, reply)
+        send_info(board, unerased, flash, place, asked, reply)
     } else {
         send_range(up, flash, place, asked, reply)
     }

@@ -1,8 +1,13 @@
--- Each answer by the tests that led to it. Assumes nothing.
+-- Each answer by the tests that led to it, and the number by what the search found. Assumes nothing.
+use Prim.Native.Nat.{ℕ}
+use mathlib.Core.Path.{ap, _∙_}
+use Rattle.session.specs.Codes.{idle, checkErased}
+use Rattle.session.specs.Session.{noDownload, withUnerased}
 use Rattle.jobs.proofs.Picks.{yes-is, no-is, refused, passed, told}
-use Rattle.command.specs.Download.{checkOf}
+use Rattle.answers.specs.Moves.{toSync, takenOf, faultOf}
 use Rattle.answers.proofs.Laws.{taken-at}
-use Rattle.command.proofs.Laws.{ready-range}
+use Rattle.command.specs.Download.{checkOf}
+use Rattle.command.proofs.Laws.{ready-range, told-erased, told-number}
 use borrow.Author.Needs.{needs}
 use Rattle.command.proofs.check.Statement.{statement}
 use Rattle.command.proofs.check.Tie as tie
@@ -17,11 +22,15 @@ returns : tie.Need-returns
 unfolding checkOf
 returns c = no-is _ _ _ _ (refused _ _ (c .before .before .in-application .ensures) (c .before .if1 .taken)) (c .faulted .ensures)
 
-erased-requires : tie.Need-erased-requires
-erased-requires c κs =
-    let s = c .before .before .before in
-    let w = ready-range _ _ (s .pre) _ _ (passed _ _ (c .before .in-application .ensures) (c .if1 .left)) in
-    (w .inside, w .addressed)
+search-requires : tie.Need-search-requires
+search-requires c κs =
+    ready-range _ _ (c .before .before .before .pre) _ _ (passed _ _ (c .before .in-application .ensures) (c .if1 .left))
+
+number-requires : tie.Need-number-requires
+number-requires c κs = search needs
+
+nothing-requires : tie.Need-nothing-requires
+nothing-requires c κs = search needs
 
 sync-requires : tie.Need-sync-requires
 sync-requires c κs = search needs
@@ -32,11 +41,15 @@ taken-requires c κs = search needs
 returns-2 : tie.Need-returns-2
 unfolding checkOf
 returns-2 c =
-    let e = c .before .before in
-    let i = e .before .before in
+    let n = c .before .before .before in
+    let e = n .before .before in
+    let i = e .before in
+    let a = i .before .before .before .args in
+    let found = e .search .ensures in
     yes-is _ _ _ _ (passed _ _ (i .before .in-application .ensures) (i .if1 .left))
-    (yes-is _ _ _ _ (told _ _ _ (e .before .erased .ensures) (e .if2 .taken))
-    (taken-at (i .before .before .before .args .s) _ _ _ (c .taken .ensures) (c .before .sync .ensures)))
+    (yes-is _ _ _ _ (told _ _ _ (told-erased _ _ _ _ found _ (n .nothing .ensures)) (c .before .before .if2 .taken))
+    (taken-at (a .s) _ _ _ (c .taken .ensures) (c .before .sync .ensures)
+    ∙ ap (λ (m : ℕ). takenOf (toSync (withUnerased (a .s) m) idle noDownload)) (told-number _ _ _ _ found _ (n .before .number .ensures))))
 
 faulted-requires-2 : tie.Need-faulted-requires-2
 faulted-requires-2 c κs = search needs
@@ -44,9 +57,15 @@ faulted-requires-2 c κs = search needs
 returns-3 : tie.Need-returns-3
 unfolding checkOf
 returns-3 c =
-    let i = c .before .before .before in
+    let n = c .before .before in
+    let e = n .before .before in
+    let i = e .before in
+    let a = i .before .before .before .args in
+    let found = e .search .ensures in
     yes-is _ _ _ _ (passed _ _ (i .before .in-application .ensures) (i .if1 .left))
-    (no-is _ _ _ _ (told _ _ _ (c .before .before .erased .ensures) (c .before .if2 .left)) (c .faulted2 .ensures))
+    (no-is _ _ _ _ (told _ _ _ (told-erased _ _ _ _ found _ (n .nothing .ensures)) (c .before .if2 .left))
+    (c .faulted2 .ensures
+    ∙ ap (λ (m : ℕ). faultOf (withUnerased (a .s) m) checkErased) (told-number _ _ _ _ found _ (n .before .number .ensures))))
 
 pub check-spec : {M : Type 1} → statement M
 check-spec =
@@ -55,7 +74,9 @@ check-spec =
     in-application-requires
     faulted-requires
     returns
-    erased-requires
+    search-requires
+    number-requires
+    nothing-requires
     sync-requires
     taken-requires
     returns-2

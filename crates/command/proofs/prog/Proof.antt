@@ -1,11 +1,13 @@
--- Each refusal by the tests that led to it; the write by all of them passed. Assumes nothing.
+-- Each refusal by the tests that led to it; the write by all of them passed; the number by what the search found. Assumes nothing.
 use Prim.Native.Nat.{ℕ, _-_}
-use mathlib.Core.Path.{ap, _∙_}
+use mathlib.Core.Path.{ap, ap₂, _∙_}
 use native.Mathlib.Omega.{arith}
 use borrow.Author.Tests.{le-leb, lt-leb}
+use Rattle.session.specs.Codes.{checkErased}
+use Rattle.session.specs.Session.{withUnerased}
 use Rattle.jobs.proofs.Picks.{yes-is, no-is, refused, passed}
-use Rattle.command.proofs.Laws.{ready-range}
-use Rattle.command.specs.Download.{progOf, wroteOf}
+use Rattle.command.proofs.Laws.{ready-range, told-erased, told-number}
+use Rattle.command.specs.Download.{progOf, wroteOf, faultPlan}
 use borrow.Author.Needs.{needs}
 use Rattle.command.proofs.prog.Statement.{statement}
 use Rattle.command.proofs.prog.Tie as tie
@@ -31,13 +33,17 @@ returns-2 c =
     yes-is _ _ _ _ (passed _ _ (i .before .in-application .ensures) (i .if1 .left))
     (no-is _ _ _ _ (lt-leb _ _ (c .before .if2 .taken)) (c .fault2 .ensures))
 
-erased-requires : tie.Need-erased-requires
-erased-requires c κs =
+search-requires : tie.Need-search-requires
+search-requires c κs =
     let i = c .before in
-    let s = i .before .before .before in
     let in-app = passed _ _ (i .before .in-application .ensures) (i .if1 .left) in
-    let w = ready-range _ _ (s .pre) (s .args .block .0) (s .args .len) in-app in
-    (omega (arith, w .inside), omega (arith, w .addressed))
+    ready-range _ _ (i .before .before .before .pre) _ _ in-app
+
+number-requires : tie.Need-number-requires
+number-requires c κs = search needs
+
+nothing-requires : tie.Need-nothing-requires
+nothing-requires c κs = search needs
 
 fault-requires-3 : tie.Need-fault-requires-3
 fault-requires-3 c κs = search needs
@@ -45,15 +51,21 @@ fault-requires-3 c κs = search needs
 returns-3 : tie.Need-returns-3
 unfolding progOf
 returns-3 c =
-    let t = c .before .before .before in
+    let n = c .before .before in
+    let e = n .before .before in
+    let t = e .before in
     let i = t .before in
+    let a = i .before .before .before .args in
+    let found = e .search .ensures in
     yes-is _ _ _ _ (passed _ _ (i .before .in-application .ensures) (i .if1 .left))
     (yes-is _ _ _ _ (le-leb _ _ (t .if2 .left))
-    (no-is _ _ _ _ (refused _ _ (c .before .before .erased .ensures) (c .before .if3 .taken)) (c .fault3 .ensures)))
+    (no-is _ _ _ _ (refused _ _ (told-erased _ _ _ _ found _ (n .nothing .ensures)) (c .before .if3 .taken))
+    (c .fault3 .ensures
+    ∙ ap (λ (m : ℕ). faultPlan (withUnerased (a .s) m) checkErased) (told-number _ _ _ _ found _ (n .before .number .ensures)))))
 
 start-requires : tie.Need-start-requires
 start-requires c κs =
-    let i = c .before .before .before in
+    let i = c .before .before .before .before .before in
     let s = i .before .before .before in
     let in-app = passed _ _ (i .before .in-application .ensures) (i .if1 .left) in
     let w = ready-range _ _ (s .pre) (s .args .block .0) (s .args .len) in-app in
@@ -70,7 +82,7 @@ sub-write c = search needs
 
 write-requires : tie.Need-write-requires
 write-requires c κs =
-    let t = c .before .before .before in
+    let t = c .before .before .before .before .before in
     let i = t .before in
     let s = i .before .before .before in
     let in-app = passed _ _ (i .before .in-application .ensures) (i .if1 .left) in
@@ -81,14 +93,18 @@ returns-4 : tie.Need-returns-4
 unfolding progOf
 returns-4 c =
     let k = c .before .before in
-    let t = k .before .before in
+    let n = k .before in
+    let e = n .before .before in
+    let t = e .before in
     let i = t .before in
-    let s = i .before .before .before in
+    let a = i .before .before .before .args in
+    let found = e .search .ensures in
     yes-is _ _ _ _ (passed _ _ (i .before .in-application .ensures) (i .if1 .left))
     (yes-is _ _ _ _ (le-leb _ _ (t .if2 .left))
-    (yes-is _ _ _ _ (passed _ _ (k .before .erased .ensures) (k .if3 .left))
+    (yes-is _ _ _ _ (passed _ _ (told-erased _ _ _ _ found _ (n .nothing .ensures)) (k .if3 .left))
     (c .write .ensures
-    ∙ ap (λ (at : ℕ). wroteOf (s .args .s) at 8 (s .args .n) (s .args .len - s .args .n)) (c .before .start .ensures))))
+    ∙ ap₂ (λ (m at : ℕ). wroteOf (withUnerased (a .s) m) at 8 (a .n) (a .len - a .n))
+    (told-number _ _ _ _ found _ (n .before .number .ensures)) (c .before .start .ensures))))
 
 pub prog-spec : {M : Type 1} → statement M
 prog-spec =
@@ -99,7 +115,9 @@ prog-spec =
     returns
     fault-requires-2
     returns-2
-    erased-requires
+    search-requires
+    number-requires
+    nothing-requires
     fault-requires-3
     returns-3
     start-requires

@@ -10,7 +10,7 @@ use borrow.Author.Tests.{eq-eqb, ne-eqb, le-leb, lt-leb}
 use Rattle.flash.specs.Flash.{startOf}
 use Rattle.session.specs.Codes.{address}
 use Rattle.session.specs.Rules.{inApplication}
-use Rattle.session.specs.Session.{appEnd, wholeUpload, freshOf}
+use Rattle.session.specs.Session.{appEnd, phaseOf, noDownload, withUnerased, wholeUpload, freshOf}
 use Rattle.request.specs.declared.Request.{Request}
 use Rattle.answers.specs.declared.Answer.{Answer}
 use Rattle.answers.specs.Answers.{done}
@@ -19,12 +19,13 @@ use Rattle.jobs.specs.Job.{jobDone}
 use Rattle.command.specs.Download.{progOf, readOf, checkOf, eraseOf, infoOf, prefixFor, binOf, byNumber, pieceOf, faultPlan}
 use Rattle.loader.specs.Step.{stepOf, settled}
 use Rattle.demands.specs.Calls.{Call, Site}
-use Rattle.demands.specs.Asked.{Asks}
+use Rattle.demands.specs.Asked.{Asks, FirstUnerased}
 use Rattle.demands.specs.Does.Rows.{Hands, Moves}
-use Rattle.demands.specs.Does.Commands.{Commanded, Named, Counted, Legal, Blank, NotBlank, Chooses, NoCommand, Commands}
-use Rattle.demands.proofs.Ground.Bytes.{bytes-erased, not-erased}
+use Rattle.demands.specs.Does.Commands.{Commanded, Named, Counted, Legal, Blank, Chooses, Finds, NoCommand, Commands}
+use Rattle.demands.proofs.Ground.Bytes.{bytes-erased}
+use Rattle.demands.proofs.Ground.Unerased.{none-found, first-searched, first-unerased}
 use Rattle.demands.proofs.Does.Forms.{asks-brings}
-use Rattle.demands.proofs.Does.Outcomes.{so-moves, so-hands}
+use Rattle.demands.proofs.Does.Outcomes.{so-moves, so-finds, so-hands}
 use Rattle.demands.proofs.Does.Downloads.{legal-in, illegal-out, piece-leaves, command-leaves, no-command-leaves, legal-near}
 use Rattle.demands.proofs.Does.Works.{legal-fits}
 
@@ -44,16 +45,18 @@ module _ (at : Site) (c : Call) (block len : ℕ) (k : Commanded at c 2 8) (rang
       ∙ rw (range .block-is, range .len-is, illegal-out at block len none))
 
 module _ (at : Site) (c : Call) (block len : ℕ) (k : Commanded at c 3 8) (range : Named c block len) where
-  check-done : Legal at block len → Blank at block len → Moves stepOf at c 0 [] 3 0
+  check-done : Legal at block len → Blank at block len → Finds stepOf at c 0 3 0 0xFFFFFFFF
   unfolding byNumber settled jobDone checkOf
   check-done legal blank =
-      so-moves at c Answer.Taken [] 3 0
+      let all = bytes-erased (at .flash) block len (legal-fits at c block len (k .asks .prepared) legal) blank in
+      so-finds at c Answer.Taken 3 0 0xFFFFFFFF
       (command-leaves at c 3 8 k (omega arith) (omega arith) (omega arith) (inr refl)
       ∙ rw (
         range .block-is,
         range .len-is,
         legal-in at block len (legal-near at c (k .asks .prepared)) legal,
-        bytes-erased (at .flash) block len (legal-fits at c block len (k .asks .prepared) legal) blank,
+        all,
+        none-found at block len all,
       ))
 
   check-range : (Legal at block len → ⊥) → Moves stepOf at c 3 [] 10 0x08
@@ -63,16 +66,18 @@ module _ (at : Site) (c : Call) (block len : ℕ) (k : Commanded at c 3 8) (rang
       (command-leaves at c 3 8 k (omega arith) (omega arith) (omega arith) (inr refl)
       ∙ rw (range .block-is, range .len-is, illegal-out at block len none))
 
-  check-unerased : Legal at block len → NotBlank at block len → Moves stepOf at c 3 [] 10 0x05
+  check-unerased : (first : ℕ) → Legal at block len → FirstUnerased at block len first → Finds stepOf at c 3 10 0x05 first
   unfolding byNumber settled jobDone checkOf faultOf
-  check-unerased legal some =
-      so-moves at c Answer.Faulted [] 10 0x05
+  check-unerased first legal is =
+      let fits = legal-fits at c block len (k .asks .prepared) legal in
+      so-finds at c Answer.Faulted 10 0x05 first
       (command-leaves at c 3 8 k (omega arith) (omega arith) (omega arith) (inr refl)
       ∙ rw (
         range .block-is,
         range .len-is,
         legal-in at block len (legal-near at c (k .asks .prepared)) legal,
-        not-erased (at .flash) block len (legal-fits at c block len (k .asks .prepared) legal) (some .0) (some .1) (some .2),
+        first-unerased at block len fits first is,
+        first-searched at block len fits first is,
       ))
 
 erase-range :
@@ -158,17 +163,21 @@ module _ (at : Site) (c : Call) (block len n : ℕ) (k : Commanded at c 1 n) whe
       (command-leaves at c 1 n k (omega arith) (omega arith) (omega arith) (inl refl)
       ∙ rw (range .block-is, range .len-is, too-much lt (inApplication (at .session .board) block len) refl))
 
-  prog-unerased : 8 ≤ n → Named c block len → Legal at block len → n ≤ 8 + len → NotBlank at block len → Moves stepOf at c 3 [] 10 0x05
+  prog-unerased :
+      (first : ℕ) → 8 ≤ n → Named c block len → Legal at block len → n ≤ 8 + len → FirstUnerased at block len first
+      → Finds stepOf at c 3 10 0x05 first
   unfolding byNumber settled jobDone progOf faultOf
-  prog-unerased long range legal few some =
-      so-moves at c Answer.Faulted [] 10 0x05
+  prog-unerased first long range legal few is =
+      let fits = legal-fits at c block len (k .asks .prepared) legal in
+      so-finds at c Answer.Faulted 10 0x05 first
       (command-leaves at c 1 n k long (omega arith) (omega arith) (inl refl)
       ∙ rw (
         range .block-is,
         range .len-is,
         legal-in at block len (legal-near at c (k .asks .prepared)) legal,
         le-leb (length (c .bytes) - 8) len (omega (arith, first-long, few)),
-        not-erased (at .flash) block len (legal-fits at c block len (k .asks .prepared) legal) (some .0) (some .1) (some .2),
+        first-unerased at block len fits first is,
+        first-searched at block len fits first is,
       ))
 
 pub Commands-hold : Commands stepOf
@@ -187,6 +196,6 @@ Commands-hold at c =
       erase-range = erase-range at c;
       prog-data = prog-data at c;
       piece-data = piece-data at c;
-      prog-unerased = prog-unerased at c;
-      check-unerased = check-unerased at c;
+      prog-unerased = λ block len n first k. prog-unerased at c block len n k first;
+      check-unerased = λ block len first k range. check-unerased at c block len k range first;
     }

@@ -12,10 +12,11 @@ use Rattle.numbers.specs.Numbers.{wordAt, longAt}
 use Rattle.request.specs.declared.Request.{Request}
 use Rattle.demands.specs.Calls.{Call, Site}
 use Rattle.demands.specs.Asked.{stateOf, Asks}
-use Rattle.demands.specs.Does.Commands.{Commanded, Named, Counted, Legal, Blank, NotBlank, short, unknown, extra}
+use Rattle.demands.specs.Does.Commands.{Commanded, Named, Counted, Legal, short, unknown, extra}
 use Rattle.demands.specs.Does.Covered.{DnloadRow, DnloadRows}
+use Rattle.demands.proofs.Ground.Unerased.{blank-or-first}
 
--- a range is legal or not, and its bytes are all erased or one of them isn't
+-- a range is legal or not
 legal-or-not : (at : Site) (block len : ℕ) → Legal at block len ⊎ (Legal at block len → ⊥)
 legal-or-not at block len =
     let board = at .session .board in
@@ -31,18 +32,6 @@ legal-or-not at block len =
           ]
       | no none ↦ inr (λ l. none (l .some))
     ]
-
-blank-or-not : (at : Site) (block len : ℕ) → Blank at block len ⊎ NotBlank at block len
-blank-or-not at block zero = inl (λ i lt. absurd (omega arith))
-blank-or-not at block (suc len) =
-    let byte : ℕ → ℕ = λ i. getD (at .flash) (startOf block + i) 0 in
-    ⊎-elim
-    (λ all.
-    elim (ℕ-discrete (byte len) 0xFF) [
-      | yes e ↦ inl (λ i lt. elim (ℕ-discrete i len) [ yes same ↦ ap byte same ∙ e | no other ↦ all i (omega arith) ])
-      | no ne ↦ inr (len, omega arith, ne)
-    ])
-    (λ some. inr (some .0, omega (arith, some .1), some .2)) (blank-or-not at block len)
 
 module _ (at : Site) (c : Call) (n : ℕ) (k : Asks at c Request.Dnload n) where
   piece-row : stateOf at ≡ 5 → DnloadRow at c
@@ -90,7 +79,7 @@ module _ (at : Site) (c : Call) (n : ℕ) (k : Asks at c Request.Dnload n) where
         elim (decLe n (8 + len)) [
           | yes few ↦
               ⊎-elim (λ blank. DnloadRow.prog block len n is long named legal few blank)
-              (λ not. DnloadRow.prog-unerased block len n is long named legal few not) (blank-or-not at block len)
+              (λ first. DnloadRow.prog-unerased block len n (first .0) is long named legal few (first .1)) (blank-or-first at block len)
           | no many ↦ DnloadRow.prog-data block len n is named (omega arith)
         ])
         (λ none. DnloadRow.prog-range block len n is long named none) (legal-or-not at block len)
@@ -99,8 +88,8 @@ module _ (at : Site) (c : Call) (n : ℕ) (k : Asks at c Request.Dnload n) where
     check-row is =
         ⊎-elim
         (λ legal.
-        ⊎-elim (λ blank. DnloadRow.check block len is named legal blank) (λ not. DnloadRow.check-unerased block len is named legal not)
-        (blank-or-not at block len))
+        ⊎-elim (λ blank. DnloadRow.check block len is named legal blank)
+        (λ first. DnloadRow.check-unerased block len (first .0) is named legal (first .1)) (blank-or-first at block len))
         (λ none. DnloadRow.check-range block len is named none) (legal-or-not at block len)
 
     read-row : Commanded at c 2 8 → DnloadRow at c

@@ -14,10 +14,10 @@ use Rattle.session.specs.declared.Session.{Session}
 use Rattle.request.specs.Request.{setupOf, dataAsked}
 use Rattle.request.specs.declared.Request.{Request}
 use Rattle.demands.specs.Calls.{Call, Site}
-use Rattle.demands.specs.Asked.{Prepared, Asks, NoRequest, Says, Form}
+use Rattle.demands.specs.Asked.{Prepared, Asks, NoRequest, FirstUnerased, Says, Form}
 use Rattle.demands.specs.Does.Rows.{StartsAt}
 use Rattle.demands.specs.Asked.Form.{dnload, upload, getstatus, clrstatus, getstate, abort, query}
-use Rattle.demands.specs.Does.Commands.{Commanded, Named, Counted, Legal, Blank, NotBlank, NoCommand}
+use Rattle.demands.specs.Does.Commands.{Commanded, Named, Counted, Legal, Blank, NoCommand}
 use Rattle.demands.specs.Does.Commands.NoCommand.{short, unknown, extra}
 use Rattle.demands.proofs.Ground.Prepared.{prepared-from}
 use Rattle.demands.proofs.Ground.SmallBoard.{smallFlash, small-long, smallSession, lent, roomy}
@@ -187,7 +187,7 @@ piece-data-met = met 5 0 1024 1 0 refl Request.Dnload 2 _ _ refl refl (dnload (s
 abbrev pub marred : Site
 marred = record { session = small 2 0 0 0 .session; flash = spliced smallFlash 1024 (0 ∷ []) }
 
-pub unerased-met : (code : ℕ) → Commanded marred (brings (onOne code 1 0)) code 8 × Legal marred 1 1 × NotBlank marred 1 1
+pub unerased-met : (code : ℕ) → Commanded marred (brings (onOne code 1 0)) code 8 × Legal marred 1 1 × FirstUnerased marred 1 1 1024
 unfolding freshOf appEnd
 unerased-met code =
     let fits : 1024 + 1 ≤ length smallFlash = rw small-long (omega arith) in
@@ -196,7 +196,12 @@ unerased-met code =
     let long = spliced-length smallFlash 1024 (0 ∷ []) fits ∙ small-long in (
       commanded-over g (onOne code 1 0) code long (omega arith) (omega arith) refl,
       record { some = omega arith; from = omega arith; to = omega arith },
-      (0, omega arith, λ e. omega (arith, zero-byte, e)),
+      record {
+        from = omega arith;
+        to = omega arith;
+        unerased = λ e. omega (arith, zero-byte, e);
+        erased-before = λ j low lt. absurd (omega arith);
+      },
     )
 
 pub close-met : Asks (small 5 0 1025 0) (lent (setups 0x21 1 0 0 0) []) Request.Dnload 0

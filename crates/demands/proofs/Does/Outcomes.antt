@@ -3,7 +3,7 @@ use Prim.Native.Nat.{ℕ}
 use mathlib.Core.List.{List, [], _++_}
 use mathlib.Core.Path.{_≡_, refl, sym, ap, _∙_}
 use lib.ListN.{length, drop}
-use Rattle.session.specs.Session.{phaseOf, noDownload, upOf}
+use Rattle.session.specs.Session.{phaseOf, noDownload, upOf, withUnerased}
 use Rattle.session.specs.declared.Session.{Session}
 use Rattle.answers.specs.declared.Answer.{Answer}
 use Rattle.answers.specs.Answers.{Leaves, answerNumber, outcome, leaves}
@@ -12,6 +12,7 @@ use Rattle.loader.specs.Step.{stepOf}
 use Rattle.demands.specs.Calls.{heard, Call, Site, called}
 use Rattle.demands.specs.Asked.{Prepared}
 use Rattle.demands.specs.Does.Rows.{Answers, Hands, Unchanged, Moves}
+use Rattle.demands.specs.Does.Commands.{Finds}
 
 module _
     (at : Site) (c : Call) (a : Answer) (bytes : List ℕ) (t : Session) (g : List ℕ)
@@ -49,6 +50,16 @@ module _ (at : Site) (c : Call) (a : Answer) (bytes : List ℕ) where
       → Moves stepOf at c (answerNumber a) bytes n status
   unfolding movedTo
   so-moves n status e = so-hands at c a bytes (movedTo (at .session) (phaseOf n status 2) noDownload) (at .flash) e refl
+
+-- one that moves it and keeps what a search found
+pub so-finds :
+    (at : Site) (c : Call) (a : Answer) (n status unerased : ℕ)
+    → called stepOf at c
+    ≡ leaves (outcome a 0 (movedTo (withUnerased (at .session) unerased) (phaseOf n status 2) noDownload)) (at .flash) (c .reply)
+    → Finds stepOf at c (answerNumber a) n status unerased
+unfolding movedTo
+so-finds at c a n status unerased e =
+    so-hands at c a [] (movedTo (withUnerased (at .session) unerased) (phaseOf n status 2) noDownload) (at .flash) e refl
 
 -- outside state 9 an upload stands at its start
 pub at-start : (at : Site) (c : Call) → Prepared at c → (at .session .phase .state .0 ≡ 9 → ⊥) → rewound (at .session .up) ≡ at .session .up

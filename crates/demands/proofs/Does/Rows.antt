@@ -49,7 +49,8 @@ module _ (at : Site) (c : Call) (n place : ℕ) (k : Asks at c Request.Upload n)
   count-is =
       let s = at .session in
       let fit = k .prepared .rules in
-      next-length (s .board) (s .up) (at .flash) (omega (arith, fit .range-to, k .prepared .flash-length, end-in-flash (s .board))) place n
+      next-length (s .board) (s .unerased) (s .up) (at .flash)
+      (omega (arith, fit .range-to, k .prepared .flash-length, end-in-flash (s .board))) place n
 
   place-is : StartsAt at place → placeOf (at .session) ≡ place
   unfolding placeOf

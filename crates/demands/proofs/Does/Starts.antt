@@ -21,6 +21,7 @@ module _ (flash : List ℕ) (a b part0 part1 : ℕ) where
         phase = refl;
         down = refl;
         up = refl;
+        unerased = refl;
         sums = fresh-right flash a (appEnd (boardOf a b part0 part1));
         session = refl;
       })
@@ -29,7 +30,7 @@ module _ (flash : List ℕ) (a b part0 part1 : ℕ) where
   unfolding zerosOf
   refused none =
       rw (not-started flash a b part0 part1 none)
-      (record { answer = refl; count = refl; board = refl; phase = refl; down = refl; up = refl; sums = refl })
+      (record { answer = refl; count = refl; board = refl; phase = refl; down = refl; up = refl; unerased = refl; sums = refl })
 
 pub Starts-hold : Starts startOutcome
 Starts-hold = record { taken = taken; refused = refused }

@@ -11,7 +11,7 @@ use Rattle.flash.proofs.Laws.{spliced-length, spliced-other}
 use Rattle.sums.specs.Sum.{refreshed}
 use Rattle.sums.specs.declared.Sums.{Sums}
 use Rattle.session.specs.Codes.{idle, downloadIdle}
-use Rattle.session.specs.Session.{appEnd, phaseOf, downOf, noDownload, withSums}
+use Rattle.session.specs.Session.{appEnd, phaseOf, downOf, noDownload, withUnerased, withSums}
 use Rattle.session.specs.declared.Session.{Session}
 use Rattle.session.proofs.Laws.{end-in-flash}
 use Rattle.request.specs.declared.Request.{Request}
@@ -27,6 +27,7 @@ use Rattle.demands.specs.Does.Rows.{goneTo}
 use Rattle.session.specs.declared.Upload.{Upload}
 use Rattle.demands.specs.Does.Commands.{Commanded, Named, Counted, Legal, Blank, EraseDone, EraseWorks, BytesDone, ProgramWorks}
 use Rattle.demands.proofs.Ground.Bytes.{spliced-byte, erased-length, erased-byte, erased-other, bytes-erased}
+use Rattle.demands.proofs.Ground.Unerased.{none-found}
 use Rattle.demands.proofs.Does.Forms.{asks-brings}
 use Rattle.demands.proofs.Does.Outcomes.{so-answers, so-session, so-flash, at-start}
 use Rattle.demands.proofs.Does.Downloads.{legal-in, command-leaves, piece-leaves, legal-near}
@@ -89,18 +90,20 @@ EraseWorks-holds = erase-done
 
 -- what a write leaves, where the bytes lie in flash
 module _
-    (at : Site) (c : Call) (place len : ℕ) (bytes : List ℕ) (k : Prepared at c) (ne : at .session .phase .state .0 ≡ 9 → ⊥)
-    (fits : place + length bytes ≤ length (at .flash)) where
+    (at : Site) (c : Call) (place len : ℕ) (bytes : List ℕ) (unerased : ℕ) (k : Prepared at c)
+    (ne : at .session .phase .state .0 ≡ 9 → ⊥) (fits : place + length bytes ≤ length (at .flash)) where
   written : Session
   written =
       toSync
-      (withSums (at .session) (sumsAfter (at .session .board) (at .session .sums) (spliced (at .flash) place bytes) place (length bytes)))
+      (withSums (withUnerased (at .session) unerased)
+      (sumsAfter (at .session .board) (at .session .sums) (spliced (at .flash) place bytes) place (length bytes)))
       downloadIdle
       (downOf (place + length bytes) (len - length bytes))
 
   write-done :
-      called stepOf at c ≡ withReply (storedOf (at .session) (at .flash) place bytes (len - length bytes)) (c .reply)
-      → BytesDone stepOf at c place len bytes
+      called stepOf at c
+      ≡ withReply (storedOf (withUnerased (at .session) unerased) (at .flash) place bytes (len - length bytes)) (c .reply)
+      → BytesDone stepOf at c place len bytes unerased
   unfolding storedOf written movedTo
   write-done e =
       let g = spliced (at .flash) place bytes in
@@ -109,7 +112,8 @@ module _
       record {
         answers = so-answers at c Answer.Taken [] written g e;
         session =
-            but-sums _ written (goneTo (at .session) (phaseOf 3 0 5) (downOf (place + length bytes) (len - length bytes)))
+            but-sums _ written
+            (goneTo (withUnerased (at .session) unerased) (phaseOf 3 0 5) (downOf (place + length bytes) (len - length bytes)))
             (rewound (at .session .up)) (at .session .up) session (at-start at c k ne);
         flash =
             record {
@@ -125,12 +129,14 @@ module _
   first-few : length (drop 8 (c .bytes)) ≤ len
   first-few = omega (arith, length-drop 8 (c .bytes), asks-brings at c n (k .asks))
 
-  prog-done : BytesDone stepOf at c (startOf block) len (drop 8 (c .bytes))
+  prog-done : BytesDone stepOf at c (startOf block) len (drop 8 (c .bytes)) 0xFFFFFFFF
   unfolding byNumber progOf
   prog-done =
       let fits = legal-fits at c block len (k .asks .prepared) legal in
       let long-data = length-drop 8 (c .bytes) in
-      write-done at c (startOf block) len (drop 8 (c .bytes)) (k .asks .prepared) (λ e. omega (arith, e, k .idle))
+      let all = bytes-erased (at .flash) block len fits blank in
+      let t = withUnerased (at .session) 0xFFFFFFFF in
+      write-done at c (startOf block) len (drop 8 (c .bytes)) 0xFFFFFFFF (k .asks .prepared) (λ e. omega (arith, e, k .idle))
       (omega (arith, first-few, fits))
       (command-leaves at c 1 n k long (omega arith) (omega arith) (inl refl)
       ∙ rw (
@@ -138,11 +144,12 @@ module _
         range .len-is,
         legal-in at block len (legal-near at c (k .asks .prepared)) legal,
         le-leb (length (c .bytes) - 8) len (omega (arith, first-few, long-data)),
-        bytes-erased (at .flash) block len fits blank,
+        all,
+        none-found at block len all,
       )
-      (bytes-finished (at .session) (at .flash) (c .bytes) (c .reply) (startOf block) 8 (length (c .bytes) - 8)
+      (bytes-finished t (at .flash) (c .bytes) (c .reply) (startOf block) 8 (length (c .bytes) - 8)
       (len - (length (c .bytes) - 8)) (sym long-data)
-      ∙ ap (λ (m : ℕ). withReply (storedOf (at .session) (at .flash) (startOf block) (drop 8 (c .bytes)) (len - m)) (c .reply))
+      ∙ ap (λ (m : ℕ). withReply (storedOf t (at .flash) (startOf block) (drop 8 (c .bytes)) (len - m)) (c .reply))
       (sym long-data)))
 
 module _
@@ -171,9 +178,9 @@ module _
       let fits = k .prepared .rules .left-to (inl loading) in
       omega (arith, fits, end-in-flash (s .board), few, asks-brings at c n k, k .prepared .flash-length)
 
-  piece-done : BytesDone stepOf at c (at .session .down .place .0) (at .session .down .left) (c .bytes)
+  piece-done : BytesDone stepOf at c (at .session .down .place .0) (at .session .down .left) (c .bytes) (at .session .unerased)
   piece-done =
-      write-done at c (at .session .down .place .0) (at .session .down .left) (c .bytes) (k .prepared)
+      write-done at c (at .session .down .place .0) (at .session .down .left) (c .bytes) (at .session .unerased) (k .prepared)
       (λ e. omega (arith, e, loading))
       piece-fits
       written-leaves

@@ -7,11 +7,12 @@ use mathlib.Core.Path.{_≡_, refl, sym, ap, subst, _∙_}
 use native.Mathlib.Omega.{arith}
 use lib.ListN.{length, getD, drop}
 use borrow.Author.Tests.{eq-eqb}
-use Rattle.flash.specs.Flash.{startOf, blank}
+use Rattle.flash.specs.Flash.{startOf, blank, searched, foundNumber}
+use Rattle.flash.specs.declared.Found.{Found}
 use Rattle.flash.proofs.Laws.{length-blank, spliced-length}
 use Rattle.sums.specs.Sum.{refreshed, freshSums}
 use Rattle.sums.specs.declared.Sums.{Sums}
-use Rattle.session.specs.Session.{boardOf, phaseOf, downOf, appEnd, streamLength, withPhase, withDown, wholeUpload, freshOf}
+use Rattle.session.specs.Session.{boardOf, phaseOf, downOf, appEnd, streamLength, withPhase, withDown, withUnerased, wholeUpload, freshOf}
 use Rattle.session.specs.Rules.{fitOf}
 use Rattle.session.specs.declared.Session.{Session}
 use Rattle.request.specs.Request.{setupOf, formOf, requestOf, wLength, dataAsked, allowedOf}
@@ -29,6 +30,7 @@ use Rattle.demands.proofs.Ground.Prepared.{prepared-from}
 use Rattle.demands.specs.Exact.Desk.{Case, Meets, Expected, All, none, _and_, Desk, freshSite, getStatus}
 use Rattle.demands.specs.Exact.Desk.{eraseAll, wiped, marred, progOne, progZero, seven, close, case, deskCases}
 use Rattle.demands.proofs.Ground.Bytes.{erased-length, erased-part, not-erased, spliced-none, spliced-byte}
+use Rattle.demands.proofs.Ground.Unerased.{none-found}
 use Rattle.demands.proofs.Ground.Served.{sound-served, sound-stalled, after-call-from}
 
 -- no call, and one call more
@@ -88,6 +90,9 @@ module _ (p q : ℕ) (f buffer : List ℕ) (sized : length f ≡ startOf 64) (ro
   w-erased : (block n : ℕ) → 16 ≤ block → startOf block + n ≤ startOf 64 → allErased w block n ≡ true
   w-erased block n low high = erased-part f 16 48 block n (omega arith) low (omega arith)
 
+  w-found : (block n : ℕ) → 16 ≤ block → startOf block + n ≤ startOf 64 → searched w block n ≡ Found.Nothing
+  w-found block n low high = none-found (site (held 2 0 2 0 0 (freshSums f 16 64)) w) block n (w-erased block n low high)
+
   z-unerased : allErased z 16 1024 ≡ false
   z-unerased =
       let here : getD z (startOf 16 + 0) 0 ≡ 0 = spliced-byte w (startOf 16) (0x00 ∷ []) (rw w-long (omega arith)) 0 (omega arith) in
@@ -122,7 +127,7 @@ module _ (p q : ℕ) (f buffer : List ℕ) (sized : length f ≡ startOf 64) (ro
     after-one =
         after-call-from _ _ (leaves (outcome Answer.Taken 0 (held 3 0 5 16384 1 one-sums)) w buffer)
         (serves (held 2 0 2 0 0 sums) w (progOne buffer) refl w-long refl refl refl refl refl
-        ∙ rw (w-erased 16 1 (omega arith) (omega arith), spliced-none w (startOf 16)))
+        ∙ rw (w-erased 16 1 (omega arith) (omega arith), w-found 16 1 (omega arith) (omega arith), spliced-none w (startOf 16)))
 
     zero-sums : Sums
     zero-sums = sumsAfter (boardOf 16 64 p q) sums z (startOf 16) 1
@@ -133,7 +138,7 @@ module _ (p q : ℕ) (f buffer : List ℕ) (sized : length f ≡ startOf 64) (ro
     after-zero =
         after-call-from _ _ (leaves (outcome Answer.Taken 0 (held 3 0 5 16385 0 zero-sums)) z buffer)
         (serves (held 2 0 2 0 0 sums) w (progZero buffer) refl w-long refl refl refl refl refl
-        ∙ rw (w-erased 16 1 (omega arith) (omega arith)))
+        ∙ rw (w-erased 16 1 (omega arith) (omega arith), w-found 16 1 (omega arith) (omega arith)))
 
     one-polled : afterCall stepOf (site (held 3 0 5 16384 1 sums) w) (getStatus buffer) ≡ site (held 5 0 2 16384 1 sums) w
     unfolding fitOf streamLength freshOf wholeUpload appEnd dataAsked setupOf formOf allowedOf served settled jobDone getstatusOf
@@ -218,7 +223,9 @@ module _ (p q : ℕ) (f buffer : List ℕ) (sized : length f ≡ startOf 64) (ro
       (outcome Answer.Taken 0 (held 3 0 5 64512 1024 (sumsAfter (boardOf 16 64 p q) sums1 w (startOf 63) 0))) w buffer
 
   abbrev unerased : Leaves
-  unerased = leaves (outcome Answer.Faulted 0 (held 10 0x05 2 0 0 (zero-sums sums1))) z buffer
+  unerased =
+      leaves
+      (outcome Answer.Faulted 0 (withUnerased (held 10 0x05 2 0 0 (zero-sums sums1)) (foundNumber (searched z 16 1024)))) z buffer
 
   -- all that each asks and expects is computed where it stands
   desk : All (Expected stepOf) (deskCases startOutcome p q f buffer)
@@ -233,7 +240,8 @@ module _ (p q : ℕ) (f buffer : List ℕ) (sized : length f ≡ startOf 64) (ro
       and example 4 _ _ at-start (serves _ f _ refl sized refl refl refl refl refl) refl refl refl refl refl refl
       and example 5 _ opened at-erased
       (serves _ w _ refl w-long refl refl refl refl refl
-      ∙ rw (w-erased 63 1024 (omega arith) (omega arith), spliced-none w (startOf 63))) refl refl refl refl refl refl
+      ∙ rw (w-erased 63 1024 (omega arith) (omega arith), w-found 63 1024 (omega arith) (omega arith), spliced-none w (startOf 63)))
+      refl refl refl refl refl refl
       and example 6 _ _ at-erased (serves _ w _ refl w-long refl refl refl refl refl) refl refl refl refl refl refl
       and example 7 _ _ at-start (serves _ f _ refl sized refl refl refl refl refl) refl refl refl refl refl refl
       and example 8 _ _ at-start (serves _ f _ refl sized refl refl refl refl refl) refl refl refl refl refl refl

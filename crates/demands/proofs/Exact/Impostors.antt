@@ -194,7 +194,7 @@ said-not h = clears saysTaken h refl
 abbrev erased-site : Site
 erased-site = fresh-site smallFlash
 
-programs : (step : Step) → Led ProgramAt step → BytesDone step erased-site prog-call 1024 2048 (7 ∷ [])
+programs : (step : Step) → Led ProgramAt step → BytesDone step erased-site prog-call 1024 2048 (7 ∷ []) 0xFFFFFFFF
 unfolding begun
 programs step h =
     here ProgramAt step h smallFlash small-long prog-call .starts 1 2048 9

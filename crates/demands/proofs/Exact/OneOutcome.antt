@@ -1,6 +1,9 @@
 -- No second outcome fits: each promise determines what a call leaves. Assumes nothing.
 use Prim.Native.Nat.{ℕ, zero, suc}
 use mathlib.Core.Path.{_≡_, refl, sym, ap, _∙_}
+use native.Mathlib.Omega.{arith}
+use Rattle.flash.specs.Flash.{foundNumber}
+use Rattle.flash.specs.declared.Found.{Found}
 use Rattle.session.specs.Session.{talkOf}
 use Rattle.answers.specs.declared.Answer.{Answer}
 use Rattle.answers.specs.declared.Heard.{Heard}
@@ -8,7 +11,8 @@ use Rattle.answers.specs.declared.Outcome.{Outcome}
 use Rattle.answers.specs.Answers.{answerNumber, heard}
 use Rattle.jobs.specs.Job.{Plan, decisionOf}
 use Rattle.loader.specs.Step.{startOutcome, stepOf}
-use Rattle.demands.specs.Exact.OneOutcome.{OneOutcome}
+use Rattle.demands.specs.Exact.OneOutcome.{Below, OneOutcome}
+use Rattle.demands.proofs.Ground.Unerased.{one-first}
 
 -- the answer of a number
 ofNumber : ℕ → Answer
@@ -33,6 +37,13 @@ one said left other e h = e ∙ sym h
 told : Outcome → Heard
 told o = heard (o .answer) (o .count) (talkOf (o .session))
 
+-- an address isn't the number that says there is none
+found-told : (x y : Found) → Below x → Below y → foundNumber x ≡ foundNumber y → x ≡ y
+found-told (Found.At j) (Found.At k) p q e = ap (λ (n : ℕ). Found.At (record { 0 = n })) e
+found-told (Found.At j) Found.Nothing p q e = absurd (omega (arith, p, e))
+found-told Found.Nothing (Found.At k) p q e = absurd (omega (arith, q, e))
+found-told Found.Nothing Found.Nothing p q e = refl
+
 pub OneOutcome-holds : OneOutcome
 unfolding told
 OneOutcome-holds =
@@ -46,4 +57,6 @@ OneOutcome-holds =
       sent = λ n m before after other bytes e h. (e .count ∙ sym (h .count), e .reply ∙ sym (h .reply));
       word = λ bytes at r q e h. e .0 ∙ sym (h .0);
       answer = λ x y e. sym (back x) ∙ ap ofNumber e ∙ back y;
+      found = found-told;
+      first-unerased = one-first;
     }

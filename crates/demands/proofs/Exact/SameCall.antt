@@ -9,7 +9,7 @@ use native.Mathlib.Decide.{ℕ-discrete, decLt}
 use native.Mathlib.Omega.{arith}
 use lib.ListN.{length, getD}
 use lib.Seq.{ext-getD}
-use Rattle.session.specs.Session.{phaseOf, downOf, withSums}
+use Rattle.session.specs.Session.{phaseOf, downOf, withUnerased, withSums}
 use Rattle.sums.specs.declared.Sums.{Sums}
 use Rattle.session.specs.declared.Session.{Session}
 use Rattle.request.specs.declared.Request.{Request}
@@ -138,10 +138,13 @@ module _ (x y : Loader) (at : Site) (c : Call) where
       same-stored (goneTo (at .session) (phaseOf 3 0 2) (downOf 0 0) (at .session .up))
       (λ z. e z .answers) (λ z. e z .session) (λ z. e z .flash)
 
-  same-bytes : {place len : ℕ} {bytes : List ℕ} → ((z : Loader) → BytesDone (z .step) at c place len bytes) → ButSums
-  same-bytes {place} {len} {bytes} b =
+  same-bytes :
+      {place len : ℕ} {bytes : List ℕ} {unerased : ℕ} → ((z : Loader) → BytesDone (z .step) at c place len bytes unerased)
+      → ButSums
+  same-bytes {place} {len} {bytes} {unerased} b =
       same-stored
-      (goneTo (at .session) (phaseOf 3 0 5) (downOf (place + length bytes) (len - length bytes)) (at .session .up))
+      (withUnerased
+      (goneTo (at .session) (phaseOf 3 0 5) (downOf (place + length bytes) (len - length bytes)) (at .session .up)) unerased)
       (λ z. b z .answers) (λ z. b z .session) (λ z. b z .flash)
 
   -- DNLOAD, row by row
@@ -157,8 +160,8 @@ module _ (x y : Loader) (at : Site) (c : Call) where
       same-hands (λ z. z .meets .commands at c .prog-range block len n is long named bad)
   same-dnload (DnloadRow.prog-data block len n is named many) =
       same-hands (λ z. z .meets .commands at c .prog-data block len n is named many)
-  same-dnload (DnloadRow.prog-unerased block len n is long named legal few not) =
-      same-hands (λ z. z .meets .commands at c .prog-unerased block len n is long named legal few not)
+  same-dnload (DnloadRow.prog-unerased block len n k is long named legal few first) =
+      same-hands (λ z. z .meets .commands at c .prog-unerased block len n k is long named legal few first)
   same-dnload (DnloadRow.read block len is named legal) = same-hands (λ z. z .meets .commands at c .read block len is named legal)
   same-dnload (DnloadRow.read-range block len is named bad) =
       same-hands (λ z. z .meets .commands at c .read-range block len is named bad)
@@ -166,8 +169,8 @@ module _ (x y : Loader) (at : Site) (c : Call) where
       same-hands (λ z. z .meets .commands at c .check block len is named legal blank)
   same-dnload (DnloadRow.check-range block len is named bad) =
       same-hands (λ z. z .meets .commands at c .check-range block len is named bad)
-  same-dnload (DnloadRow.check-unerased block len is named legal not) =
-      same-hands (λ z. z .meets .commands at c .check-unerased block len is named legal not)
+  same-dnload (DnloadRow.check-unerased block len k is named legal first) =
+      same-hands (λ z. z .meets .commands at c .check-unerased block len k is named legal first)
   same-dnload (DnloadRow.erase block count is named legal) =
       same-erased (λ z. z .meets .erase-works at c block count is named legal)
   same-dnload (DnloadRow.erase-range block count is named bad) =

@@ -7,11 +7,11 @@ use mathlib.Core.Path.{_≡_, refl, sym, ap, _∙_}
 use native.Mathlib.Omega.{arith}
 use lib.ListN.{length, take, drop, getD, getD-replicate, take-append-drop}
 use lib.Seq.{getD-take, getD-drop, ext-getD}
-use Rattle.flash.specs.Flash.{startOf, range, spliced, blank, erased, searched}
+use Rattle.flash.specs.Flash.{startOf, range, spliced, blank, erased, searched, nothing}
 use Rattle.flash.specs.declared.Found.{Found}
 use Rattle.flash.proofs.Laws.{length-blank, length-range, spliced-length, spliced-range, spliced-other}
 use Rattle.flash.proofs.Unerased.{nothing-blank, blank-searched}
-use Rattle.command.specs.Download.{nothing, allErased}
+use Rattle.command.specs.Download.{allErased}
 
 pub range-byte : (f : List ℕ) (at n i : ℕ) → i < n → getD (range f at n) i 0 ≡ getD f (at + i) 0
 unfolding range
@@ -61,7 +61,7 @@ module _ (f : List ℕ) (first count : ℕ) (h : startOf first + startOf count �
       spliced-other f (startOf first) (blank (startOf count)) fits k
       (⊎-elim (λ l. inl l) (λ l. inr (omega arith)) o)
 
-nothing-is : (x : Found) → nothing x ≡ true → x ≡ Found.Nothing
+pub nothing-is : (x : Found) → nothing x ≡ true → x ≡ Found.Nothing
 nothing-is (Found.At at) e = absurd (false≢true e)
 nothing-is Found.Nothing e = refl
 

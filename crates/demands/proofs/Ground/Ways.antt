@@ -25,14 +25,14 @@ use Rattle.answers.specs.Moves.{movedTo, toIdle, toSync, takenOf, stallOf, unfi
 use Rattle.jobs.specs.declared.Job.{Job}
 use Rattle.jobs.specs.Job.{Plan, planOf, jobDone}
 use Rattle.command.specs.Ready.{Ready}
-use Rattle.command.specs.Download.{allErased, progOf, readOf, checkOf, eraseOf, infoOf, binOf, wellFormed, byNumber, commandOf}
+use Rattle.command.specs.Download.{allErased, noted, progOf, readOf, checkOf, eraseOf, infoOf, binOf, wellFormed, byNumber, commandOf}
 use Rattle.command.specs.Download.{closedOf, pieceOf, dnloadOf}
 use Rattle.command.proofs.Laws.{pick}
 use Rattle.loader.specs.Reply.{getstatusOf, getstateOf, queryOf}
 use Rattle.loader.specs.Upload.{uploadOf}
 use Rattle.loader.specs.Step.{ready, Decided, withReply, served, decidedOf, settled, stepOf}
 use Rattle.loader.proofs.Laws.{ready-fit, allowed-loading}
-use Rattle.demands.specs.Safe.Refused.{FaultStatus, not-erased, out-of-range, bytes-missing, bad-command}
+use Rattle.demands.specs.Safe.Refused.{FaultStatus, out-of-range, bytes-missing, bad-command}
 use Rattle.demands.proofs.Ground.Finished.{finished, withFlash, storedOf, wipedOf, bytes-finished, wipe-finished}
 
 -- a DNLOAD that is served in a state
@@ -74,10 +74,17 @@ pub record Ways (s : Session) (f setup d reply : List ℕ) (P : Leaves → Type 
   pub faults :
       Ready s f → requestOf setup ≡ Request.Dnload → (status : ℕ) → FaultStatus status
       → P (leaves (faultOf s status) f reply)
+  pub unerased :
+      Loads s f setup idle → inApplication (s .board) (wordAt d 2) (longAt d 4) ≡ true
+      → allErased f (wordAt d 2) (longAt d 4) ≡ false
+      → P (leaves (faultOf (noted s f (wordAt d 2) (longAt d 4)) checkErased) f reply)
   pub programs :
       Loads s f setup idle → getD d 0 0 ≡ prog → inApplication (s .board) (wordAt d 2) (longAt d 4) ≡ true
       → length (drop 8 d) ≤ longAt d 4
-      → P (withReply (storedOf s f (startOf (wordAt d 2)) (drop 8 d) (longAt d 4 - length (drop 8 d))) reply)
+      → P
+      (withReply
+      (storedOf (noted s f (wordAt d 2) (longAt d 4)) f (startOf (wordAt d 2)) (drop 8 d) (longAt d 4 - length (drop 8 d)))
+      reply)
   pub pieces :
       Loads s f setup downloadIdle → length d ≤ s .down .left
       → P (withReply (storedOf s f (s .down .place .0) d (s .down .left - length d)) reply)
@@ -90,7 +97,8 @@ pub record Ways (s : Session) (f setup d reply : List ℕ) (P : Leaves → Type 
       (leaves
       (takenOf
       (toSync (withUp s (upOf flashStream (s .up .«prefix») (wordAt d 2) (longAt d 4) 0)) idle noDownload)) f reply)
-  pub checks : Loads s f setup idle → P (leaves (takenOf (toSync s idle noDownload)) f reply)
+  pub checks :
+      Loads s f setup idle → P (leaves (takenOf (toSync (noted s f (wordAt d 2) (longAt d 4)) idle noDownload)) f reply)
   pub erases :
       Loads s f setup idle → getD d 0 0 ≡ erase → inApplication (s .board) (wordAt d 2) (startOf (wordAt d 4)) ≡ true
       → P (withReply (wipedOf s f (wordAt d 2) (wordAt d 4)) reply)
@@ -127,6 +135,7 @@ module _ (s : Session) (f setup d reply : List ℕ) (P : Leaves → Type 0) (w :
   unfolding progOf Finishes
   prog-ways l c =
       let n = length d - 8 in
+      let t = noted s f (wordAt d 2) (longAt d 4) in
       pick Finishes (inApplication (s .board) (wordAt d 2) (longAt d 4)) _ _
       (λ i.
       pick Finishes (leb n (longAt d 4)) _ _
@@ -135,10 +144,10 @@ module _ (s : Session) (f setup d reply : List ℕ) (P : Leaves → Type 0) (w :
       let long = length-drop 8 d in
       pick Finishes (allErased f (wordAt d 2) (longAt d 4)) _ _
       (λ b.
-      subst⁻¹ P (bytes-finished s f d reply (startOf (wordAt d 2)) 8 n (longAt d 4 - n) (sym long))
-      (subst (λ (m : ℕ). P (withReply (storedOf s f (startOf (wordAt d 2)) (drop 8 d) (longAt d 4 - m)) reply)) long
+      subst⁻¹ P (bytes-finished t f d reply (startOf (wordAt d 2)) 8 n (longAt d 4 - n) (sym long))
+      (subst (λ (m : ℕ). P (withReply (storedOf t f (startOf (wordAt d 2)) (drop 8 d) (longAt d 4 - m)) reply)) long
       (w .programs l c i (omega (arith, few, long)))))
-      (λ b. faulty l checkErased (not-erased refl)))
+      (λ b. alone _ (w .unerased l i b)))
       (λ n. faulty l address (out-of-range refl)))
       (λ i. faulty l address (out-of-range refl))
 
@@ -154,7 +163,7 @@ module _ (s : Session) (f setup d reply : List ℕ) (P : Leaves → Type 0) (w :
       pick Only (inApplication (s .board) (wordAt d 2) (longAt d 4)) _ _
       (λ i.
       pick Only (allErased f (wordAt d 2) (longAt d 4)) _ _ (λ b. w .checks l)
-      (λ b. w .faults (l .fit) (l .is-dnload) checkErased (not-erased refl)))
+      (λ b. w .unerased l i b))
       (λ i. w .faults (l .fit) (l .is-dnload) address (out-of-range refl))
 
   erase-ways : Loads s f setup idle → getD d 0 0 ≡ erase → Finishes (eraseOf s (wordAt d 2) (wordAt d 4))

@@ -136,7 +136,7 @@ reset-asked-met = ap heard (goes-on small resetCommand reset-prepared)
 abbrev pub abort : Call
 abort = lent (0x21 ∷ 6 ∷ 0 ∷ 0 ∷ 0 ∷ 0 ∷ 0 ∷ 0 ∷ []) []
 
-stalled-once : InError (small .session) (afterCall stepOf small clrstatus .session) 0x0F
+stalled-once : InError (small .session) (afterCall stepOf small clrstatus .session) 0x0F (small .session .unerased)
 unfolding afterCall small freshOf
 stalled-once = refused-holds small clrstatus .stalled stalled-met .elsewhere (λ e. omega (arith, e))
 

@@ -13,9 +13,9 @@ use lib.ListN.{length, getD, drop}
 use Rattle.flash.specs.Flash.{startOf}
 use Rattle.flash.proofs.Reaching.{facts-lie}
 use Rattle.sums.specs.Sum.{mostBlocks, freshSums}
-use Rattle.session.specs.Codes.{idle, downloadSync, downloadIdle, manifestSync, uploadIdle, error, ok, stalled}
+use Rattle.session.specs.Codes.{idle, downloadSync, downloadIdle, manifestSync, uploadIdle, error, ok, checkErased, stalled}
 use Rattle.session.specs.Session.{appEnd, phaseOf, downOf, noDownload, upOf, flashStream, infoBytes}
-use Rattle.session.specs.Session.{boardOf, withPhase, withUp, withSums, streamLength, zerosOf}
+use Rattle.session.specs.Session.{boardOf, withPhase, withUp, withUnerased, withSums, streamLength, zerosOf}
 use Rattle.session.specs.Rules.{splitRule, stateRule, statusRule, running, downloadRule, uploadRule, afterRule, inApplication}
 use Rattle.session.specs.Rules.{rangeRule, placeRule, flagsRule, fitOf}
 use Rattle.session.specs.declared.Phase.{Phase}
@@ -23,7 +23,7 @@ use Rattle.session.specs.declared.Download.{Download}
 use Rattle.session.specs.declared.Upload.{Upload}
 use Rattle.session.specs.declared.Session.{Session}
 use Rattle.session.proofs.Laws.{fit-kept, kept-fit, fit-facts, facts-fit, fit-near, end-in-flash}
-use Rattle.session.proofs.Laws.{split-facts, zeros-unfit, fresh-fit, running-false}
+use Rattle.session.proofs.Laws.{split-facts, zeros-unfit, fresh-fit, unerased-free, running-false}
 use Rattle.session.proofs.Tests.{left-of, right-of, or-unless, where-true, pick-most}
 use Rattle.numbers.specs.Numbers.{wordAt, longAt}
 use Rattle.request.specs.Request.{wLength}
@@ -42,8 +42,7 @@ use Rattle.loader.specs.Step.{startable, freshStart, startOutcome, stepOf}
 use Rattle.loader.proofs.Laws.{place-in-stream, start-split, start-sized}
 use Rattle.demands.specs.Calls.{heard, Call, Site, called, afterCall}
 use Rattle.demands.specs.Safe.Fit.{StaysFit, AllowedStart, StartsFit, RefusedStart}
-use Rattle.demands.specs.Safe.Refused.{FaultStatus}
-use Rattle.demands.specs.Safe.Refused.{not-erased, out-of-range, bytes-missing, bad-command}
+use Rattle.demands.specs.Safe.Refused.{FaultStatus, out-of-range, bytes-missing, bad-command}
 use Rattle.demands.proofs.Ground.Ways.{every-way}
 use Rattle.demands.proofs.Safe.Outside.{piece-place}
 use Rattle.demands.proofs.Safe.Refused.{refused-holds, unfit-exactly-holds}
@@ -94,6 +93,10 @@ sync-fit :
     → fitOf (movedTo s (phaseOf downloadSync ok idle) noDownload) ≡ true
 sync-fit s split range flags = moved-kept s (phaseOf downloadSync ok idle) noDownload split range flags refl refl refl refl refl
 
+-- what the last search found isn't judged
+noted-fit : (s : Session) (unerased : ℕ) → fitOf s ≡ true → fitOf (withUnerased s unerased) ≡ true
+noted-fit s unerased e = unerased-free s unerased ∙ e
+
 -- to error, with a status of its own
 error-fit :
     (s : Session) (status : ℕ) → fitOf s ≡ true → statusRule (phaseOf error status idle) ≡ true
@@ -103,7 +106,6 @@ error-fit s status e h =
     moved-kept s (phaseOf error status idle) noDownload (k .split) (k .range) (k .flags) refl h refl refl refl
 
 fault-status : (n : ℕ) → FaultStatus n → statusRule (phaseOf error n idle) ≡ true
-fault-status n (not-erased e) = rw e
 fault-status n (out-of-range e) = rw e
 fault-status n (bytes-missing e) = rw e
 fault-status n (bad-command e) = rw e
@@ -161,7 +163,7 @@ upload-fit s f asked reply r =
     let ends = end-in-flash (s .board) in
     let to = fit .range-to in
     let sized = r .sized in
-    let long = next-length (s .board) (s .up) f (omega arith) (placeOf s) asked in
+    let long = next-length (s .board) (s .unerased) (s .up) f (omega arith) (placeOf s) asked in
     let here = place-in-stream s f r in
     pick (λ t. fitOf t ≡ true) (uploadEnds asked n) _ _ (λ _. idle-fit s (r .fit))
     (λ _.
@@ -286,16 +288,17 @@ tests-stay at c e =
       unfits = λ _. e;
       stalls = λ _ _. stall-fit s e;
       faults = λ _ _ status h. error-fit s status e (fault-status status h);
+      unerased = λ _ _ _. error-fit _ checkErased (noted-fit s _ e) refl;
       programs = λ l _ i n.
           let p = ready-place s f (l .fit) (wordAt d 2) (longAt d 4) i in
-          wrote-fit s f (startOf (wordAt d 2)) (drop 8 d) (longAt d 4 - length (drop 8 d)) e
+          wrote-fit _ f (startOf (wordAt d 2)) (drop 8 d) (longAt d 4 - length (drop 8 d)) (noted-fit s _ e)
           (record { low = p .low; high = omega arith });
       pieces = λ l n.
           let p = piece-place s f (c .setup) (s .down .left) l (omega arith) in
           wrote-fit s f (s .down .place .0) d (s .down .left - length d) e (record { low = p .low; high = omega arith });
       closes = λ _. manifest-fit s e;
       reads = λ _ i. read-fit s (wordAt d 2) (longAt d 4) e i;
-      checks = λ _. sync-fit s (k .split) (k .range) (k .flags);
+      checks = λ _. sync-fit _ (k .split) (k .range) (k .flags);
       erases = λ _ _ _. sync-fit (withSums s _) (k .split) (k .range) (k .flags);
       informs = λ _. info-fit s e;
       bins = λ _. bin-fit s (getD d 1 0) e;

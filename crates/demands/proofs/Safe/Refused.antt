@@ -7,36 +7,39 @@ use native.Mathlib.Omega.{arith}
 use borrow.Author.Tests.{eq-eqb, ne-eqb}
 use lib.ListN.{length}
 use Rattle.flash.specs.Flash.{startOf}
-use Rattle.session.specs.Session.{appEnd, phaseOf, downOf, upOf, wholeUpload, freshOf}
+use Rattle.session.specs.Codes.{checkErased}
+use Rattle.session.specs.Session.{appEnd, phaseOf, downOf, upOf, withUnerased, wholeUpload, freshOf}
 use Rattle.session.specs.declared.Phase.{Phase}
 use Rattle.session.specs.declared.Download.{Download}
 use Rattle.session.specs.declared.Upload.{Upload}
 use Rattle.session.specs.declared.Session.{Session}
+use Rattle.numbers.specs.Numbers.{wordAt, longAt}
 use Rattle.request.specs.Request.{wLength, requestOf, allowedOf}
 use Rattle.request.specs.declared.Request.{Request}
 use Rattle.answers.specs.Answers.{Leaves, leaves}
 use Rattle.answers.specs.Moves.{movedTo, toError, stallOf, unfitOf, faultOf, resetOf}
 use Rattle.jobs.specs.Job.{jobDone}
-use Rattle.command.specs.Download.{infoOf, binOf}
-use Rattle.command.proofs.Laws.{pick}
+use Rattle.command.specs.Download.{allErased, noted, infoOf, binOf}
+use Rattle.command.proofs.Laws.{pick, ready-range}
 use Rattle.loader.specs.Reply.{getstatusOf, getstateOf, queryOf, answered}
 use Rattle.loader.specs.Upload.{uploadOf}
 use Rattle.loader.specs.Step.{ready, served, stepOf, decidedOf, only, Decided, settled}
 use Rattle.demands.specs.Calls.{heard, Call, Site, called}
 use Rattle.demands.specs.Asked.{Prepared, Form, Allowed, NoRequest}
-use Rattle.demands.specs.Safe.Refused.{Settled, InError, Stalled, FaultStatus, Faulted, AsFresh, AnswerRows, Refused}
-use Rattle.demands.specs.Safe.Refused.{UnfitExactly, StalledExactly}
+use Rattle.demands.specs.Safe.Refused.{Settled, InError, Stalled, FaultStatus, unsearched, not-erased, Faulted, AsFresh, AnswerRows}
+use Rattle.demands.specs.Safe.Refused.{Refused, UnfitExactly, StalledExactly}
 use Rattle.demands.proofs.Ground.Ways.{every-way}
 use Rattle.demands.proofs.Ground.Prepared.{prepared-ready, ready-prepared}
+use Rattle.demands.proofs.Ground.Unerased.{number-first}
 use Rattle.demands.proofs.Does.Forms.{request-form, no-request, asks-stalled}
 use Rattle.demands.proofs.Ground.Finished.{storedOf}
 
 -- a session with these groups is settled
 so-settled :
-    (s t : Session) (state status choice flag first len : ℕ) → t .board ≡ s .board → t .phase ≡ phaseOf state status 2
-    → t .down ≡ downOf 0 0 → t .up ≡ upOf choice flag first len 0 → t .sums ≡ s .sums
-    → Settled s t state status choice flag first len
-so-settled s t state status choice flag first len board phase down up sums =
+    (s t : Session) (state status choice flag first len unerased : ℕ) → t .board ≡ s .board → t .phase ≡ phaseOf state status 2
+    → t .down ≡ downOf 0 0 → t .up ≡ upOf choice flag first len 0 → t .unerased ≡ unerased → t .sums ≡ s .sums
+    → Settled s t state status choice flag first len unerased
+so-settled s t state status choice flag first len unerased board phase down up number sums =
     record {
       board = board;
       in-state = ap (λ (p : Phase). p .state .0) phase;
@@ -49,19 +52,22 @@ so-settled s t state status choice flag first len board phase down up sums =
       range-first = ap (λ (u : Upload). u .first .0) up;
       range-length = ap (λ (u : Upload). u .len) up;
       up-place = ap (λ (u : Upload). u .place) up;
+      unerased-is = number;
       sums = sums;
     }
 
 -- what a move to state 10 leaves, and what a RESET does
-errored : (s : Session) (status : ℕ) → InError s (toError s status) status
+errored : (s : Session) (unerased status : ℕ) → InError s (toError (withUnerased s unerased) status) status unerased
 unfolding movedTo
-errored s status =
-    so-settled s (toError s status) 10 status (s .up .choice) (s .up .«prefix») (s .up .first .0) (s .up .len) refl refl refl refl refl
+errored s unerased status =
+    so-settled s (toError (withUnerased s unerased) status) 10 status (s .up .choice) (s .up .«prefix») (s .up .first .0) (s .up .len)
+    unerased refl refl refl refl refl refl
 
 freshened : (s : Session) → AsFresh s (resetOf s .session)
 unfolding resetOf freshOf wholeUpload
 freshened s =
-    so-settled s (resetOf s .session) 2 0 0 1 (s .board .a .0) (startOf (appEnd (s .board) - s .board .a .0)) refl refl refl refl refl
+    so-settled s (resetOf s .session) 2 0 0 1 (s .board .a .0) (startOf (appEnd (s .board) - s .board .a .0)) 0xFFFFFFFF
+    refl refl refl refl refl refl
 
 stalled-row :
     (at : Site) (c : Call) → NoRequest at c
@@ -73,7 +79,7 @@ stalled-row at c n =
       when = n;
       quiet = record { count = refl; flash = refl; reply = refl };
       in-ten = λ e. rw (eq-eqb (s .phase .state .0) 10 e);
-      elsewhere = λ n. rw (ne-eqb (s .phase .state .0) 10 n) (errored s 0x0F);
+      elsewhere = λ n. rw (ne-eqb (s .phase .state .0) 10 n) (errored s (s .unerased) 0x0F);
     }
 
 -- a call that is taken is in none of the rows
@@ -94,8 +100,23 @@ faulted-row at c q status h =
     record {
       when = q;
       quiet = record { count = refl; flash = refl; reply = refl };
-      status = h;
-      in-error = errored (at .session) status;
+      session = unsearched status h (errored (at .session) (at .session .unerased) status);
+    }
+
+-- what the search found is the first of the range, which lies in flash
+unerased-row :
+    (at : Site) (c : Call) → ((n : ℕ) × Form (c .setup) n Request.Dnload)
+    → startOf (wordAt (c .bytes) 2) + longAt (c .bytes) 4 ≤ length (at .flash)
+    → allErased (at .flash) (wordAt (c .bytes) 2) (longAt (c .bytes) 4) ≡ false
+    → Faulted at c
+    (leaves (faultOf (noted (at .session) (at .flash) (wordAt (c .bytes) 2) (longAt (c .bytes) 4)) checkErased) (at .flash) (c .reply))
+unfolding faultOf movedTo
+unerased-row at c q fits n =
+    let first = number-first at (wordAt (c .bytes) 2) (longAt (c .bytes) 4) fits n in
+    record {
+      when = q;
+      quiet = record { count = refl; flash = refl; reply = refl };
+      session = not-erased _ first (errored (at .session) _ checkErased);
     }
 
 -- the rows of a prepared call, and of any other
@@ -124,6 +145,14 @@ prepared-rows at c p =
             stalled = λ h. absurd (omega arith);
             unfit = λ h. absurd (omega arith);
             faulted = λ _. faulted-row at c (in-form at c p q) status h;
+            reset-asked = λ h. absurd (omega arith);
+          };
+      unerased = λ l i n.
+          let w = ready-range s (at .flash) (l .fit) (wordAt (c .bytes) 2) (longAt (c .bytes) 4) i in
+          record {
+            stalled = λ h. absurd (omega arith);
+            unfit = λ h. absurd (omega arith);
+            faulted = λ _. unerased-row at c (in-form at c p (l .is-dnload)) (w .inside) n;
             reset-asked = λ h. absurd (omega arith);
           };
       programs = λ _ _ _ _. taken at c _ refl;
@@ -195,6 +224,7 @@ module _ (at : Site) (c : Call) where
         unfits = λ e _. false≢true (sym e ∙ prepared-ready at c p);
         stalls = λ _ _ h. omega arith;
         faults = λ _ _ _ _ h. omega arith;
+        unerased = λ _ _ _ h. omega arith;
         programs = λ _ _ _ _ h. omega arith;
         pieces = λ _ _ h. omega arith;
         closes = λ _ h. omega arith;

@@ -6,8 +6,8 @@ use lib.ListN.{getD}
 use Rattle.flash.specs.Flash.{startOf}
 use Rattle.request.specs.declared.Request.{Request}
 use Rattle.demands.specs.Calls.{Call, Site}
-use Rattle.demands.specs.Asked.{stateOf, Prepared, Allowed, Asks, NoRequest}
-use Rattle.demands.specs.Does.Commands.{Commanded, NotBlank, Counted, Blank, Legal, Named, NoCommand}
+use Rattle.demands.specs.Asked.{stateOf, Prepared, Allowed, Asks, NoRequest, FirstUnerased}
+use Rattle.demands.specs.Does.Commands.{Commanded, Counted, Blank, Legal, Named, NoCommand}
 
 -- the rows that a DNLOAD can fall under, each with what it asks for: those of EraseWorks, ProgramWorks and Commands, and of Rows those
 -- for no bytes
@@ -24,14 +24,14 @@ pub data DnloadRow (at : Site) (c : Call) : Type 0 where
       (block len n : ℕ) → Commanded at c 1 n → 8 ≤ n → Named c block len → (Legal at block len → ⊥) → DnloadRow at c
   prog-data : (block len n : ℕ) → Commanded at c 1 n → Named c block len → 8 + len < n → DnloadRow at c
   prog-unerased :
-      (block len n : ℕ) → Commanded at c 1 n → 8 ≤ n → Named c block len → Legal at block len → n ≤ 8 + len
-      → NotBlank at block len → DnloadRow at c
+      (block len n k : ℕ) → Commanded at c 1 n → 8 ≤ n → Named c block len → Legal at block len → n ≤ 8 + len
+      → FirstUnerased at block len k → DnloadRow at c
   read : (block len : ℕ) → Commanded at c 2 8 → Named c block len → Legal at block len → DnloadRow at c
   read-range : (block len : ℕ) → Commanded at c 2 8 → Named c block len → (Legal at block len → ⊥) → DnloadRow at c
   check : (block len : ℕ) → Commanded at c 3 8 → Named c block len → Legal at block len → Blank at block len → DnloadRow at c
   check-range : (block len : ℕ) → Commanded at c 3 8 → Named c block len → (Legal at block len → ⊥) → DnloadRow at c
   check-unerased :
-      (block len : ℕ) → Commanded at c 3 8 → Named c block len → Legal at block len → NotBlank at block len
+      (block len k : ℕ) → Commanded at c 3 8 → Named c block len → Legal at block len → FirstUnerased at block len k
       → DnloadRow at c
   erase :
       (block count : ℕ) → Commanded at c 4 8 → Counted c block count → Legal at block (startOf count) → DnloadRow at c

@@ -23,7 +23,8 @@ StartsAt at place =
 
 -- the next n bytes of the chosen stream, or all that are left of it
 abbrev pub nextBytes : Site → ℕ → ℕ → List ℕ
-nextBytes at place n = take n (drop place (streamOf (at .session .board) (at .session .up) (at .flash)))
+nextBytes at place n =
+    take n (drop place (streamOf (at .session .board) (at .session .unerased) (at .session .up) (at .flash)))
 
 -- a session with another state, status and state after sync, another download and another upload; all else stays
 abbrev pub goneTo : Session → Phase → Download → Upload → Session

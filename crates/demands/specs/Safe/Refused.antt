@@ -5,10 +5,11 @@ use lib.ListN.{length, getD}
 use Rattle.flash.specs.Flash.{startOf}
 use Rattle.session.specs.Session.{appEnd}
 use Rattle.session.specs.declared.Session.{Session}
+use Rattle.numbers.specs.Numbers.{wordAt, longAt}
 use Rattle.request.specs.declared.Request.{Request}
 use Rattle.answers.specs.Answers.{Leaves}
 use Rattle.demands.specs.Calls.{Step, heard, Call, Site, called}
-use Rattle.demands.specs.Asked.{stateOf, Prepared, Form, Allowed, NoRequest}
+use Rattle.demands.specs.Asked.{stateOf, Prepared, Form, Allowed, NoRequest, FirstUnerased}
 
 -- what every refused call leaves: a count of 0, flash and reply untouched
 pub record Quiet (at : Site) (c : Call) (l : Leaves) : Type 0 where
@@ -16,9 +17,10 @@ pub record Quiet (at : Site) (c : Call) (l : Leaves) : Type 0 where
   pub flash : l .flash ≡ at .flash
   pub reply : l .reply ≡ c .reply
 
--- t is s gone to a state with a status, and to an upload of some choice, prefix flag and range: the state after sync is 2, the
--- download is dropped, the upload is at its stream's first byte; A, B, part numbers and the sums stay
-pub record Settled (s t : Session) (state status choice flag first len : ℕ) : Type 0 where
+-- t is s gone to a state with a status, to an upload of some choice, prefix flag and range, and to a number of where flash wasn't
+-- erased: the state after sync is 2, the download is dropped, the upload is at its stream's first byte; A, B, part numbers and the sums
+-- stay
+pub record Settled (s t : Session) (state status choice flag first len unerased : ℕ) : Type 0 where
   pub board : t .board ≡ s .board
   pub in-state : t .phase .state .0 ≡ state
   pub told : t .phase .status .0 ≡ status
@@ -30,41 +32,49 @@ pub record Settled (s t : Session) (state status choice flag first len : ℕ) : 
   pub range-first : t .up .first .0 ≡ first
   pub range-length : t .up .len ≡ len
   pub up-place : t .up .place ≡ 0
+  pub unerased-is : t .unerased ≡ unerased
   pub sums : t .sums ≡ s .sums
 
 -- in state 10, the upload's choice, prefix flag and range as they were
-abbrev pub InError : Session → Session → ℕ → Type 0
-InError s t status = Settled s t 10 status (s .up .choice) (s .up .«prefix») (s .up .first .0) (s .up .len)
+abbrev pub InError : Session → Session → ℕ → ℕ → Type 0
+InError s t status unerased =
+    Settled s t 10 status (s .up .choice) (s .up .«prefix») (s .up .first .0) (s .up .len) unerased
 
--- as fresh: state 2, status 0, the flash stream with its prefix over all of the application
+-- as fresh: state 2, status 0, the flash stream with its prefix over all of the application, and nowhere found unerased
 abbrev pub AsFresh : Session → Session → Type 0
-AsFresh s t = Settled s t 2 0 0 1 (s .board .a .0) (startOf (appEnd (s .board) - s .board .a .0))
+AsFresh s t = Settled s t 2 0 0 1 (s .board .a .0) (startOf (appEnd (s .board) - s .board .a .0)) 0xFFFFFFFF
 
 -- row 1, stalled: wrong form, or not allowed in this state; state 10, status 0x0F; in state 10 nothing changes
 pub record Stalled (at : Site) (c : Call) (l : Leaves) : Type 0 where
   pub when : NoRequest at c
   pub quiet : Quiet at c l
   pub in-ten : at .session .phase .state .0 ≡ 10 → l .session ≡ at .session
-  pub elsewhere : (at .session .phase .state .0 ≡ 10 → ⊥) → InError (at .session) (l .session) 0x0F
+  pub elsewhere : (at .session .phase .state .0 ≡ 10 → ⊥) → InError (at .session) (l .session) 0x0F (at .session .unerased)
 
 -- row 2, unfit: nothing changes
 pub record Unfit (at : Site) (c : Call) (l : Leaves) : Type 0 where
   pub quiet : Quiet at c l
   pub session : l .session ≡ at .session
 
--- a status that a fault can set: 05, 08, 09 or 0B
+-- a status of a fault that no search was made for: 08, 09 or 0B
 pub data FaultStatus (n : ℕ) : Type 0 where
-  not-erased : n ≡ 0x05 → FaultStatus n
   out-of-range : n ≡ 0x08 → FaultStatus n
   bytes-missing : n ≡ 0x09 → FaultStatus n
   bad-command : n ≡ 0x0B → FaultStatus n
 
--- row 3, faulted: a download; state 10, with a status of a fault
+-- what a fault leaves of the session: state 10 with its status. Without a search the number of where flash wasn't erased stays; with
+-- one the status is 05, and the number the first address of the command's range whose byte isn't 0xFF
+pub data FaultLeaves (at : Site) (c : Call) (t : Session) : Type 0 where
+  unsearched : (status : ℕ) → FaultStatus status → InError (at .session) t status (at .session .unerased) → FaultLeaves at c t
+  not-erased :
+      (k : ℕ) → FirstUnerased at (wordAt (c .bytes) 2) (longAt (c .bytes) 4) k → InError (at .session) t 0x05 k
+      → FaultLeaves at c t
+
+-- row 3, faulted: a download
 pub record Faulted (at : Site) (c : Call) (l : Leaves) : Type 0 where
   pub when : (n : ℕ) × Form (c .setup) n Request.Dnload
   pub quiet : Quiet at c l
-  pub status : FaultStatus (l .session .phase .status .0)
-  pub in-error : InError (at .session) (l .session) (l .session .phase .status .0)
+  pub session : FaultLeaves at c (l .session)
 
 -- a DNLOAD in state 2 of the eight bytes of RESET, number 7
 pub record ResetCommand (at : Site) (c : Call) : Type 0 where

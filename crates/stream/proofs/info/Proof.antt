@@ -1,4 +1,4 @@
--- The bytes are those that `low2` and `low4` answer, six numbers end to end. Assumes nothing.
+-- The bytes are those that `low2` and `low4` answer, seven numbers end to end. Assumes nothing.
 use mathlib.Core.Path.{_≡_, ap, ap₂, _∙_}
 use mathlib.Core.List.{List, _++_}
 use Prim.Native.Nat.{ℕ}
@@ -39,19 +39,25 @@ start-requires-2 c κs = search needs
 low4-requires-4 : tie.Need-low4-requires-4
 low4-requires-4 c κs = search needs
 
+low4-requires-5 : tie.Need-low4-requires-5
+low4-requires-5 c κs = search needs
+
 returns : tie.Need-returns
 unfolding infoStream
 returns c =
-    let e = c .before .before in
+    let b = c .before in
+    let e = b .before .before in
     let p = e .before .before .before in
     let s = p .before .before in
     join
+    (join
     (join
     (join (join (join (s .before .low2 .ensures) (s .low22 .ensures)) (p .before .low4 .ensures)) (p .low42 .ensures))
     (e .low43 .ensures
     ∙ ap (λ (at : ℕ). bytes4 at)
     (e .before .start .ensures ∙ ap (λ (k : ℕ). startOf k) (e .before .before .app-end .ensures))))
-    (c .low44 .ensures ∙ ap (λ (at : ℕ). bytes4 at) (c .before .start2 .ensures))
+    (b .low44 .ensures ∙ ap (λ (at : ℕ). bytes4 at) (b .before .start2 .ensures)))
+    (c .low45 .ensures)
 
 pub info-spec : {M : Type 1} → statement M
 info-spec =
@@ -66,4 +72,5 @@ info-spec =
     low4-requires-3
     start-requires-2
     low4-requires-4
+    low4-requires-5
     returns)

@@ -37,7 +37,7 @@ returns c =
     let t = g .before .before in
     let a = t .before .before .before .before .args in
     sent-from (a .place) (a .asked)
-    (sym (info-chosen (a .board) (a .up) (a .flash .now) (t .if1 .taken)))
+    (sym (info-chosen (a .board) (a .unerased) (a .up) (a .flash .now) (t .if1 .taken)))
     (g .send-info .ensures)
 
 same-length-2 : tie.Need-same-length-2
@@ -50,7 +50,7 @@ returns-2 c =
     let t = g .before .before in
     let a = t .before .before .before .before .args in
     sent-from (a .place) (a .asked)
-    (sym (flash-chosen (a .board) (a .up) (a .flash .now) (t .if1 .left)))
+    (sym (flash-chosen (a .board) (a .unerased) (a .up) (a .flash .now) (t .if1 .left)))
     (g .send-range .ensures)
 
 pub send-spec : {M : Type 1} → statement M

@@ -10,12 +10,12 @@ use native.Mathlib.Omega.{arith}
 use borrow.Author.Tests.{ne-eqb, le-leb}
 use lib.ListN.{length, take, drop, length-append, length-drop, take-append-drop}
 use lib.Seq.{take-append-le, drop-append-le}
-use Rattle.flash.specs.Flash.{startOf, range, spliced, blank}
+use Rattle.flash.specs.Flash.{startOf, range, spliced, blank, nothing, nowhere, foundNumber}
 use Rattle.flash.proofs.Laws.{spliced-length, spliced-join}
 use Rattle.flash.proofs.Unerased.{blank-searched}
 use Rattle.sums.specs.declared.Sums.{Sums}
 use Rattle.session.specs.Codes.{downloadIdle}
-use Rattle.session.specs.Session.{downOf, noDownload, upOf, appEnd, flashStream}
+use Rattle.session.specs.Session.{downOf, noDownload, upOf, appEnd, flashStream, withUnerased}
 use Rattle.session.specs.Rules.{splitRule, inApplication}
 use Rattle.session.specs.declared.Session.{Session}
 use Rattle.session.proofs.Laws.{end-in-flash, inside-facts}
@@ -26,7 +26,7 @@ use Rattle.stream.specs.Stream.{headerOf}
 use Rattle.answers.specs.Answers.{leaves}
 use Rattle.answers.specs.Moves.{movedTo, takenOf}
 use Rattle.jobs.specs.Job.{Plan, sumsAfter}
-use Rattle.command.specs.Download.{nothing, allErased, progOf, wellFormed, byNumber, pieceOf, dnloadOf}
+use Rattle.command.specs.Download.{allErased, wroteOf, progOf, wellFormed, byNumber, pieceOf, dnloadOf}
 use Rattle.loader.specs.Reply.{entered, polled}
 use Rattle.loader.specs.Step.{stepOf}
 use Rattle.demands.specs.Calls.{Site, called}
@@ -67,12 +67,16 @@ filled-after r g at d rest h w =
 module _
     (base : Session) (block len : ℕ) (lent : List ℕ) (split : splitRule (base .board) ≡ true)
     (legal : inApplication (base .board) block len ≡ true) (room : 1024 ≤ length lent) where
+  -- PROG finds all erased
+  abbrev found : Session
+  found = withUnerased base nowhere
+
   -- a download at a place with so many bytes left, between two polls and before one
   loading : ℕ → ℕ → Sums → Session
-  loading at left sums = inState base block len atDownload (downOf at left) 0 sums
+  loading at left sums = inState found block len atDownload (downOf at left) 0 sums
 
   loaded : ℕ → ℕ → Sums → Session
-  loaded at left sums = inState base block len atPiece (downOf at left) 0 sums
+  loaded at left sums = inState found block len atPiece (downOf at left) 0 sums
 
   -- where data goes
   record Ahead (g : List ℕ) (at left : ℕ) : Type 0 where
@@ -95,7 +99,7 @@ module _
   unfolding loaded loading polled entered
   polled-piece g at left sums w h =
       polled-on (loaded at left sums) g lent
-      (record { fit = piece-fit base block len split legal sums at left (w .from) (w .to); sized = w .sized }) room h
+      (record { fit = piece-fit found block len split legal sums at left (w .from) (w .to); sized = w .sized }) room h
 
   -- a piece of data
   piece-called :
@@ -108,7 +112,7 @@ module _
   unfolding loaded loading dnloadOf pieceOf storedOf movedTo allowedOf
   piece-called g at left sums d w some few fits =
       dnload-called (loading at left sums) g lent
-      (record { fit = download-fit base block len split legal sums at left (w .from) (w .to); sized = w .sized }) room d few refl
+      (record { fit = download-fit found block len split legal sums at left (w .from) (w .to); sized = w .sized }) room d few refl
       ∙ ap (λ (x : Plan). finished x g d lent) (is-no _ _ _ (ne-eqb (length d) 0 (omega arith)) ∙ is-yes _ _ _ (le-leb _ _ fits))
       ∙ bytes-finished (loading at left sums) g d lent at 0 (length d) (left - length d) refl
 
@@ -153,7 +157,9 @@ module _
     unfolding waiting loaded headerOf wellFormed byNumber progOf storedOf allErased movedTo
     prog-called x few fits =
         let s = inState base block len atIdle noDownload 0 sums in
+        let t = withUnerased s nowhere in
         let d = header ++ x in
+        let none = blank-searched g block len all-blank in
         let small = near (base .board) block len split legal in
         let well : wellFormed d ≡ true = rw (le-leb 8 (length d) (omega arith)) in
         let the-block : wordAt d 2 ≡ block = omega arith in
@@ -163,8 +169,9 @@ module _
         ∙ ap (λ (m : ℕ). finished (progOf s g (wordAt d 2) (longAt d 4) m) g d lent) brought
         ∙ ap₂ (λ (b n : ℕ). finished (progOf s g b n (length x)) g d lent) the-block the-length
         ∙ ap (λ (y : Plan). finished y g d lent)
-        (is-yes _ _ _ legal ∙ is-yes _ _ _ (le-leb _ _ fits) ∙ is-yes _ _ _ (ap nothing (blank-searched g block len all-blank)))
-        ∙ bytes-finished s g d lent (startOf block) 8 (length x) (len - length x) refl
+        (is-yes _ _ _ legal ∙ is-yes _ _ _ (le-leb _ _ fits) ∙ is-yes _ _ _ (ap nothing none)
+        ∙ ap (λ (n : ℕ). wroteOf (withUnerased s n) (startOf block) 8 (length x) (len - length x)) (ap foundNumber none))
+        ∙ bytes-finished t g d lent (startOf block) 8 (length x) (len - length x) refl
 
     first-sent :
         {ps : List (List ℕ)} {rest : List ℕ} (x : List ℕ) → Pieces ps rest → 8 + length x ≤ 1024

@@ -34,9 +34,10 @@ module _ (board : Board) (block len : ℕ) where
   abbrev pub image : List ℕ → List ℕ
   image f = headerOf (upOf flashStream 1 block len 0) ++ range f (startOf block) len
 
-  pub image-streamed : (f : List ℕ) (place : ℕ) → streamOf board (upOf flashStream 1 block len place) f ≡ image f
+  pub image-streamed :
+      (unerased : ℕ) (f : List ℕ) (place : ℕ) → streamOf board unerased (upOf flashStream 1 block len place) f ≡ image f
   unfolding streamOf prefixOf headerOf
-  image-streamed f place = refl
+  image-streamed unerased f place = refl
 
   pub image-length : (f : List ℕ) → startOf block + len ≤ length f → length (image f) ≡ 8 + len
   image-length f h =

@@ -70,7 +70,7 @@ module _ (base : Session) (block len : ℕ) (sums : Sums) (f lent : List ℕ) wh
     ready : Ready s f
     allowed : allowedOf Request.Upload 1024 (s .phase .state .0) ≡ true
     stands : placeOf s ≡ place
-    streams : streamOf (s .board) (s .up) f ≡ stream
+    streams : streamOf (s .board) (s .unerased) (s .up) f ≡ stream
     goes-on : (q : ℕ) → uploadingAt s q ≡ inState base block len atUpload noDownload q sums
 
   uploaded-on :
@@ -120,7 +120,7 @@ module _ (base : Session) (block len : ℕ) (sums : Sums) (f lent : List ℕ) wh
           ready = record { fit = idle-fit base block len split legal sums; sized = sized };
           allowed = refl;
           stands = refl;
-          streams = image-streamed (base .board) block len f 0;
+          streams = image-streamed (base .board) block len (base .unerased) f 0;
           goes-on = λ q. refl;
         }
 
@@ -131,7 +131,7 @@ module _ (base : Session) (block len : ℕ) (sums : Sums) (f lent : List ℕ) wh
           ready = record { fit = upload-fit base block len split legal sums p h; sized = sized };
           allowed = refl;
           stands = refl;
-          streams = image-streamed (base .board) block len f p;
+          streams = image-streamed (base .board) block len (base .unerased) f p;
           goes-on = λ q. refl;
         }
 

@@ -31,7 +31,7 @@ uploaded-requires c κs =
     let s = k .before .before .before .before .before in
     let f = s .args .flash .now in
     let e = k .before .before .place .ensures in
-    let same = ap (λ (p : ℕ). nextOf (s .args .s .board) (s .args .s .up) f p (s .args .asked)) e in
+    let same = ap (λ (p : ℕ). nextOf (s .args .s .board) (s .args .s .unerased) (s .args .s .up) f p (s .args .asked)) e in
     let count = k .send .ensures .count ∙ ap length same in
     let n = answer-near (s .args .s) f (s .pre .0) (s .args .asked) (k .send .result) (s .pre .1 .0) count in
     (e, omega arith)
@@ -47,7 +47,7 @@ returns c =
     let f = s .args .flash .now in
     let before = s .args .reply .now in
     let bytes = answerOf (s .args .s) f (s .args .asked) in
-    let same = ap (λ (p : ℕ). nextOf (s .args .s .board) (s .args .s .up) f p (s .args .asked)) (k .before .before .place .ensures) in
+    let same = ap (λ (p : ℕ). nextOf (s .args .s .board) (s .args .s .unerased) (s .args .s .up) f p (s .args .asked)) (k .before .before .place .ensures) in
     let count = k .send .ensures .count ∙ ap length same in
     answered-by _ bytes before _ _ count (k .send .ensures .reply ∙ ap (λ (l : List ℕ). l ++ drop (length l) before) same)
     ∙ ap (λ (t : Session). answered t bytes before) (c .uploaded .ensures ∙ ap (uploadedOf (s .args .s) (s .args .asked)) count)

@@ -22,6 +22,7 @@ returns c =
       phase = t .phase;
       down = t .down;
       up = t .up;
+      unerased = t .unerased;
       sums = a .sums;
     } in
     ap over (made .fresh-talk .ensures)
