@@ -241,7 +241,9 @@ impl History {
     /// is drawn can be another.
     fn draw_unjudged(&mut self, session: &mut Session, stores: bool) {
         let dice = &mut self.unjudged;
-        if stores && dice.below(4) > 0 {
+        // Rules with a fault may let more blocks pass than there are sums for.
+        let summed = session.b <= MOST;
+        if stores && summed && dice.below(4) > 0 {
             sessions::sum_nearly(dice, session, &self.right);
         }
         if dice.below(3) == 0 {
