@@ -31,6 +31,7 @@ extern "C" {
 #define MULLIRIM_BLOCK 1024u      /* the bytes of a block */
 #define MULLIRIM_MOST_BLOCKS 256u /* the most blocks of a flash */
 #define MULLIRIM_REPLY_ROOM 1024u /* a reply buffer has at least so many bytes */
+#define MULLIRIM_NONE 0xFFFFFFFFu /* in place of an address: there is none */
 
 /* So many bytes of stack are enough for any call of the library as it ships, for x86-64: measured by its tests, not proved. */
 #define MULLIRIM_STACK 4096u
@@ -87,6 +88,9 @@ struct mullirim_session {
     struct mullirim_phase phase;
     struct mullirim_download download;
     struct mullirim_upload upload;
+    uint32_t unerased; /* the address of the first byte that the last CHECK or PROG found not to be 0xFF, or MULLIRIM_NONE where it
+                          found none; none too after a start or RESET. One that is refused before it looks leaves this as it was.
+                          INFO reports it as its last four bytes; nothing else reads it, and any number will do */
     struct mullirim_sums sums;
 };
 

@@ -30,6 +30,8 @@ static void same_session(const struct mullirim_session *s)
     if (s->upload.choice != t.upload.choice || s->upload.prefix != t.upload.prefix || s->upload.first != t.upload.first ||
         s->upload.len != t.upload.len || s->upload.place != t.upload.place)
         fail("upload of the session");
+    if (s->unerased != t.unerased)
+        fail("unerased address of the session");
 }
 
 static void play_start(void)

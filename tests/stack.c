@@ -11,7 +11,7 @@
 #include "painted.h"
 
 enum { FIRST = 16, BLOCKS = MULLIRIM_MOST_BLOCKS, AT = FIRST * MULLIRIM_BLOCK, PROG_DATA = MULLIRIM_REPLY_ROOM - 8 };
-enum { IDLE = 2, SYNC = 3, MANIFEST = 6, UP_IDLE = 9, ERROR = 10, INFO_BYTES = 20 };
+enum { IDLE = 2, SYNC = 3, MANIFEST = 6, UP_IDLE = 9, ERROR = 10, INFO_BYTES = 24 };
 
 /* What a call is lent, and what came of it. */
 static struct {

@@ -80,8 +80,9 @@ impl Call {
 
 pub struct History {
     dice: Dice,
-    /// For the sums alone: what is asked doesn't hang on which of them are wrong.
-    sums_dice: Dice,
+    /// For what no rule judges, the sums and the address that a search left: what
+    /// is asked doesn't hang on these.
+    unjudged: Dice,
     /// How many histories of its kind, with a small or a large flash, went
     /// before.
     pub turn: u64,
@@ -117,7 +118,7 @@ impl History {
                 true => 50 + dice.below(101),
                 false => 80 + dice.below(181),
             },
-            sums_dice: Dice::new(!seed.rotate_left(32) ^ number),
+            unjudged: Dice::new(!seed.rotate_left(32) ^ number),
             right: flash.chunks(BLOCK as usize).map(sum).collect(),
             flash,
             session: Session {
@@ -207,9 +208,7 @@ impl History {
     }
 
     /// The next call. It is lent the session that the last one left, unless
-    /// the history is a wild one. There, where bytes may be stored, its sums are
-    /// often right or nearly so: after a session with any sums at all they would
-    /// hardly become so again.
+    /// the history is a wild one.
     pub fn call(&mut self) -> Call {
         let mut session = self.lent_session();
         let lent = self.lent_flash(&session);
@@ -219,20 +218,34 @@ impl History {
             true => choose(dice, &session, &self.flash[..lent]),
             false => any_request(dice),
         };
-        if self.wild && fits && !data.is_empty() && self.sums_dice.below(4) > 0 {
-            sessions::sum_nearly(&mut self.sums_dice, &mut session, &self.right);
-        }
         let room = match dice.below(48) {
             0 => [0, 1, 1_000, 1_023][dice.below(4) as usize],
             1 => [1_025, 1_026, 2_047, REPLY_ROOM][dice.below(4) as usize],
             _ => TRANSFER,
         };
+        if self.wild && fits {
+            self.draw_unjudged(&mut session, !data.is_empty());
+        }
         Call {
             session,
             lent,
             setup,
             data,
             room,
+        }
+    }
+
+    /// Where bytes may be stored, the sums are often right or nearly so: after a
+    /// session with any sums at all they would hardly become so again. While a
+    /// download runs, the search before it has found none, and only a number that
+    /// is drawn can be another.
+    fn draw_unjudged(&mut self, session: &mut Session, stores: bool) {
+        let dice = &mut self.unjudged;
+        if stores && dice.below(4) > 0 {
+            sessions::sum_nearly(dice, session, &self.right);
+        }
+        if dice.below(3) == 0 {
+            session.unerased = sessions::some_address(dice, session.a, session.b);
         }
     }
 

@@ -141,6 +141,7 @@ laid! {
         pub phase: Phase,
         pub download: Download,
         pub upload: Upload,
+        pub unerased: u32,
         pub sums: Sums,
     }
 }
@@ -250,6 +251,7 @@ impl From<&Session> for second::Session {
             up_first: from.upload.first,
             up_len: from.upload.len,
             up_place: from.upload.place,
+            unerased: from.unerased,
             sums: from.sums.block,
             whole: from.sums.whole,
         }
@@ -282,6 +284,7 @@ impl From<&second::Session> for Session {
                 len: from.up_len,
                 place: from.up_place,
             },
+            unerased: from.unerased,
             sums: Sums {
                 block: from.sums,
                 whole: from.whole,
@@ -318,6 +321,7 @@ mod tests {
         assert_eq!(bytes[offset_of!(Session, phase)], second.state);
         assert_eq!(bytes[upload + 1], second.up_prefix);
         assert_eq!(long(upload + offset_of!(Upload, len)), second.up_len);
+        assert_eq!(long(sums - 4), second.unerased);
         for block in [0, 7, MOST_BLOCKS - 1] {
             assert_eq!(long(sums + 4 * block), second.sums[block]);
         }

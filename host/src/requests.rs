@@ -5,6 +5,7 @@ use crate::dice::Dice;
 use crate::histories::SMALL;
 use crate::lone;
 use crate::second::{command, state, Session, BLOCK, ERASED, INFO_STREAM, MOST_BLOCKS};
+use crate::sessions::{INFO_BEFORE_LAST, INFO_BYTES};
 use crate::tape::{header, setup, QUERY};
 
 /// The setup bytes and the data.
@@ -184,7 +185,7 @@ fn any_status(dice: &mut Dice) -> Request {
 
 fn upload(dice: &mut Dice, session: &Session) -> Request {
     let stream = match (session.up_choice, session.up_prefix) {
-        (INFO_STREAM, _) => 20,
+        (INFO_STREAM, _) => INFO_BYTES,
         (_, prefix) => session.up_len + 8 * u32::from(prefix),
     };
     let left = stream - session.up_place;
@@ -193,6 +194,10 @@ fn upload(dice: &mut Dice, session: &Session) -> Request {
         1 => 1,
         2..=4 => 1 + dice.below(1_024),
         5 if left < 1_024 => (left + dice.below(3)).saturating_sub(1).max(1),
+        6..=8 if session.up_choice == INFO_STREAM => 1 + dice.below(INFO_BYTES),
+        9 if session.up_choice == INFO_STREAM => {
+            INFO_BEFORE_LAST.saturating_sub(session.up_place).max(1)
+        }
         _ => 1_024,
     };
     request(0xA1, 2, length)
@@ -421,11 +426,15 @@ fn long_prog(dice: &mut Dice, session: &Session, flash: &[u8]) -> Vec<u8> {
     [&header[..], &dice.bytes(some)].concat()
 }
 
-/// A range that ends near a byte which alone is not erased. Where there is no
-/// such byte, one is written at times.
+/// A range that ends near a byte which alone is not erased; for a PROG at times
+/// with data. Where there is no such byte, one is written at times.
 fn near_a_lone_byte(dice: &mut Dice, session: &Session, flash: &[u8], number: u8) -> Vec<u8> {
     if let Some((block, length)) = lone::range(dice, session, flash) {
-        return header(number, block as u16, length).to_vec();
+        let data = match number {
+            command::PROG => dice.below(3) / 2 * (1 + dice.below(length.min(8))),
+            _ => 0,
+        };
+        return [&header(number, block as u16, length)[..], &dice.bytes(data)].concat();
     }
     match (dice.below(2), erased_run(dice, session, flash)) {
         (0, Some((block, _))) => {

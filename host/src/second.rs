@@ -54,7 +54,10 @@ pub mod command {
 pub const FLASH_STREAM: u8 = 0;
 pub const INFO_STREAM: u8 = 1;
 
-const INFO_LENGTH: u64 = 20;
+const INFO_LENGTH: u64 = 24;
+
+/// What stands for an address where a search found no byte.
+pub const NONE: u32 = 0xFFFF_FFFF;
 
 /// The session. Every number is open, so that broken sessions can be tried.
 #[derive(Clone, Debug, PartialEq, Eq)]
@@ -73,6 +76,9 @@ pub struct Session {
     pub up_first: u32,
     pub up_len: u32,
     pub up_place: u32,
+    /// What the last search found. It is kept to be told alone: no rule judges
+    /// it and nothing hangs on it.
+    pub unerased: u32,
     pub sums: [u32; MOST_BLOCKS],
     pub whole: u32,
 }
@@ -157,6 +163,7 @@ impl Session {
             up_first: 0,
             up_len: 0,
             up_place: 0,
+            unerased: 0,
             sums: [0; MOST_BLOCKS],
             whole: 0,
         }
@@ -175,6 +182,7 @@ impl Session {
             up_first: self.a,
             up_len: (self.b - self.a) * BLOCK,
             up_place: 0,
+            unerased: NONE,
             ..self.clone()
         }
     }
@@ -256,6 +264,7 @@ impl Session {
         info.extend(self.part1.to_le_bytes());
         info.extend((self.b * BLOCK).to_le_bytes());
         info.extend((self.a * BLOCK).to_le_bytes());
+        info.extend(self.unerased.to_le_bytes());
         info
     }
 
@@ -468,20 +477,22 @@ fn upload(session: &Session, flash: &[u8], length: usize, reply: &mut [u8]) -> O
 type Done = Result<Session, u8>;
 
 fn download(session: &Session, flash: &mut [u8], data: &[u8]) -> Outcome {
+    // What a search finds is noted here, since a fault keeps it too.
+    let mut noted = session.clone();
     let done = match session.state {
-        state::IDLE => obey(session, flash, data),
+        state::IDLE => obey(&mut noted, flash, data),
         _ => go_on(session, flash, data),
     };
     match done {
         // Of all downloads only RESET ends in state 2.
         Ok(next) if next.state == state::IDLE => silent(answer::RESET_ASKED, next),
         Ok(next) => silent(answer::TAKEN, next),
-        Err(status) => silent(answer::FAULTED, session.failing(status)),
+        Err(status) => silent(answer::FAULTED, noted.failing(status)),
     }
 }
 
 /// A DNLOAD in state 2: one command.
-fn obey(session: &Session, flash: &mut [u8], data: &[u8]) -> Done {
+fn obey(session: &mut Session, flash: &mut [u8], data: &[u8]) -> Done {
     let (header, rest) = data
         .split_at_checked(command::LENGTH)
         .ok_or(status::COMMAND)?;
@@ -492,7 +503,7 @@ fn obey(session: &Session, flash: &mut [u8], data: &[u8]) -> Done {
     match header[0] {
         command::PROG => prog(session, flash, header, rest),
         command::READ => read(next, header),
-        command::CHECK => check(next, flash, header),
+        command::CHECK => check(session, flash, header),
         command::ERASE => erase(next, flash, header),
         command::INFO => Ok(Session {
             up_choice: INFO_STREAM,
@@ -513,19 +524,29 @@ fn named_range(session: &Session, header: &[u8]) -> Result<Range<usize>, u8> {
     application_range(session, block, length).ok_or(status::ADDRESS)
 }
 
-fn demand_erased(bytes: &[u8]) -> Result<(), u8> {
-    match bytes.iter().all(|byte| *byte == ERASED) {
-        true => Ok(()),
-        false => Err(status::NOT_ERASED),
+/// The address of the first byte of a range that is not erased.
+fn first_unerased(flash: &[u8], range: Range<usize>) -> Option<usize> {
+    let mut bytes = flash[range.clone()].iter();
+    let place = bytes.position(|byte| *byte != ERASED)?;
+    Some(range.start + place)
+}
+
+/// Notes what a search of the range finds, be it a byte or none.
+fn demand_erased(session: &mut Session, flash: &[u8], range: Range<usize>) -> Result<(), u8> {
+    let found = first_unerased(flash, range);
+    session.unerased = found.map_or(NONE, |address| address as u32);
+    match found {
+        None => Ok(()),
+        Some(_) => Err(status::NOT_ERASED),
     }
 }
 
-fn prog(session: &Session, flash: &mut [u8], header: &[u8], first: &[u8]) -> Done {
+fn prog(session: &mut Session, flash: &mut [u8], header: &[u8], first: &[u8]) -> Done {
     let range = named_range(session, header)?;
     if first.len() > range.len() {
         return Err(status::ADDRESS);
     }
-    demand_erased(&flash[range.clone()])?;
+    demand_erased(session, flash, range.clone())?;
     Ok(write(session, flash, range, first))
 }
 
@@ -539,10 +560,10 @@ fn read(next: Session, header: &[u8]) -> Done {
     })
 }
 
-fn check(next: Session, flash: &[u8], header: &[u8]) -> Done {
-    let range = named_range(&next, header)?;
-    demand_erased(&flash[range])?;
-    Ok(next)
+fn check(session: &mut Session, flash: &[u8], header: &[u8]) -> Done {
+    let range = named_range(session, header)?;
+    demand_erased(session, flash, range)?;
+    Ok(session.entering(state::DOWN_SYNC))
 }
 
 fn erase(mut next: Session, flash: &mut [u8], header: &[u8]) -> Done {
@@ -640,6 +661,26 @@ mod tests {
 
         fn now(&self) -> (u8, u8) {
             (self.session.state, self.session.status)
+        }
+
+        /// Fresh, but for these bytes of the application.
+        fn unerased_at(places: &[usize]) -> Board {
+            let Board { mut flash, .. } = Board::fresh();
+            places.iter().for_each(|place| flash[*place] = 0xFE);
+            let (_, session) = start(&flash, 16, 64, 0, 0);
+            Board { session, flash }
+        }
+
+        /// What INFO tells at its end, asked from whatever state.
+        fn told(&mut self) -> [u8; 4] {
+            self.call(&[0xA1, 2, 0, 0, 0, 0, 0, 0], &[]);
+            self.call(&CLRSTATUS, &[]);
+            assert_eq!(self.dnload(&[5, 0, 0, 0, 0, 0, 0, 0]), 0);
+            self.status();
+            let (_, info) = self.call(&UPLOAD, &[]);
+            self.call(&ABORT, &[]);
+            assert_eq!(info.len(), 24);
+            info[20..].try_into().unwrap()
         }
     }
 
@@ -745,6 +786,7 @@ mod tests {
         assert_eq!(board.dnload(&[1, 0, 16, 0, 0x00, 0x04, 0, 0, 0x77]), 3);
         assert_eq!(board.now(), (10, 0x05));
         assert_eq!(board.flash[16_384], 0xFF);
+        assert_eq!(board.told(), [0xFF, 0x43, 0x00, 0x00]);
     }
 
     #[test]
@@ -794,6 +836,7 @@ mod tests {
         let mut info = vec![0x00, 0x04, 0x40, 0x00];
         info.extend([0; 8]);
         info.extend([0x00, 0x00, 0x01, 0x00, 0x00, 0x40, 0x00, 0x00]);
+        info.extend([0xFF, 0xFF, 0xFF, 0xFF]);
         assert_eq!(board.call(&UPLOAD, &[]), (0, info));
     }
 
@@ -825,6 +868,142 @@ mod tests {
         assert_eq!(board.session.up_prefix, 0);
         assert_eq!(board.dnload(&[7, 1, 2, 3, 4, 5, 6, 7]), 4);
         assert_eq!(board.session, fresh);
+    }
+
+    /// Of blocks 16 to 63 these bytes are not erased: the first of block 18, and
+    /// two in block 19.
+    const PLACES: [usize; 3] = [18_432, 20_000, 20_001];
+
+    /// A range with what a search of it must find.
+    const SEARCHED: [(u8, u32, u32); 7] = [
+        (18, 1, 18_432),
+        (18, 3_000, 18_432),
+        (16, 49_152, 18_432),
+        (16, 2_049, 18_432),
+        (19, 545, 20_000),
+        (19, 546, 20_000),
+        (19, 1_024, 20_000),
+    ];
+
+    #[test]
+    fn a_search_keeps_the_first_address() {
+        for (block, length, found) in SEARCHED {
+            for (number, data) in [(3, &[][..]), (1, &[]), (1, &[7])] {
+                let mut board = Board::unerased_at(&PLACES);
+                let header = [&[number, 0, block, 0], &length.to_le_bytes()[..], data];
+                assert_eq!(board.dnload(&header.concat()), 3);
+                assert_eq!(board.now(), (10, 0x05));
+                assert_eq!(board.session.unerased, found);
+                assert_eq!(board.told(), found.to_le_bytes());
+            }
+        }
+    }
+
+    #[test]
+    fn a_search_that_finds_none_says_so() {
+        for clean in [
+            &[3, 0, 16, 0, 0, 8, 0, 0][..],
+            &[3, 0, 19, 0, 0x20, 2, 0, 0],
+            &[1, 0, 16, 0, 0, 8, 0, 0],
+            &[1, 0, 19, 0, 0x20, 2, 0, 0, 7],
+        ] {
+            let mut board = Board::unerased_at(&PLACES);
+            assert_eq!(board.dnload(&[3, 0, 18, 0, 1, 0, 0, 0]), 3);
+            board.call(&CLRSTATUS, &[]);
+            assert_eq!(board.session.unerased, 18_432);
+            assert_eq!(board.dnload(clean), 0);
+            assert_eq!(board.session.unerased, 0xFFFF_FFFF);
+            assert_eq!(board.told(), [0xFF; 4]);
+        }
+    }
+
+    /// Commands that are refused before they search, or that never do.
+    #[test]
+    fn what_does_not_search_keeps_the_number() {
+        let commands: [(u8, &[u8]); 14] = [
+            (3, &[3, 0, 16, 0, 1, 0, 0]),
+            (3, &[1]),
+            (3, &[3, 0, 16, 0, 1, 0, 0, 0, 0]),
+            (3, &[8, 0, 16, 0, 1, 0, 0, 0]),
+            (3, &[3, 0, 15, 0, 1, 0, 0, 0]),
+            (3, &[3, 0, 16, 0, 0, 0, 0, 0]),
+            (3, &[1, 0, 63, 0, 1, 4, 0, 0]),
+            (3, &[1, 0, 16, 0, 1, 0, 0, 0, 7, 7]),
+            (3, &[1, 0, 18, 0, 1, 0, 0, 0, 7, 7]),
+            (1, &[]),
+            (0, &[2, 0, 18, 0, 1, 0, 0, 0]),
+            (0, &[4, 0, 18, 0, 1, 0, 0, 0]),
+            (0, &[5, 0, 18, 0, 1, 0, 0, 0]),
+            (0, &[6, 1, 18, 0, 1, 0, 0, 0]),
+        ];
+        for number in [20_000, NONE, 0] {
+            for (answer, command) in commands {
+                let mut board = Board::unerased_at(&PLACES);
+                board.session.unerased = number;
+                assert_eq!(board.dnload(command), answer, "{command:?}");
+                assert_eq!(board.session.unerased, number, "{command:?}");
+                assert_eq!(board.told(), number.to_le_bytes());
+            }
+        }
+    }
+
+    /// In state 5, what came of the data is told by state and status.
+    #[test]
+    fn the_data_of_a_download_keeps_the_number() {
+        let tries: [(u32, &[u8], (u8, u8)); 4] = [
+            (3, &[7, 8], (3, 0)),
+            (0, &[], (6, 0)),
+            (1, &[7, 8], (10, 0x08)),
+            (1, &[], (10, 0x09)),
+        ];
+        for (left, data, now) in tries {
+            let mut board = Board::unerased_at(&PLACES);
+            board.session.state = state::DOWN_IDLE;
+            (board.session.down_place, board.session.down_left) = (16_384, left);
+            board.session.unerased = 20_001;
+            board.dnload(data);
+            assert_eq!((board.now(), board.session.unerased), (now, 20_001));
+        }
+    }
+
+    #[test]
+    fn only_reset_and_a_fresh_start_forget_the_number() {
+        let mut board = Board::unerased_at(&PLACES);
+        assert_eq!(board.session.unerased, 0xFFFF_FFFF);
+        board.session.unerased = 20_001;
+        for setup in [GETSTATUS, GETSTATE, UPLOAD, ABORT, CLRSTATUS, CLRSTATUS] {
+            board.call(&setup, &[]);
+            assert_eq!(board.session.unerased, 20_001);
+        }
+        assert_eq!(board.dnload(&[7, 0, 0, 0, 0, 0, 0, 0]), 4);
+        assert_eq!(board.session.unerased, 0xFFFF_FFFF);
+    }
+
+    /// The number that stands when the bytes are read, from each place of them.
+    #[test]
+    fn info_tells_the_number_in_parts_too() {
+        let mut board = Board::fresh();
+        board.session.up_choice = INFO_STREAM;
+        board.session.unerased = 0x0A0B_0C0D;
+        let info = board.session.info();
+        assert_eq!(info[16..], [0, 0x40, 0, 0, 0x0D, 0x0C, 0x0B, 0x0A]);
+        for place in 0..=24 {
+            board.session.state = state::UP_IDLE;
+            board.session.up_place = place;
+            let read = info[place as usize..].to_vec();
+            assert_eq!(board.call(&UPLOAD, &[]), (0, read));
+            assert_eq!((board.now().0, board.session.up_place), (9, 24));
+        }
+        for length in 1..=25 {
+            board.session.state = state::IDLE;
+            board.session.up_place = 0;
+            let read = info[..usize::from(length).min(24)].to_vec();
+            let setup = [0xA1, 2, 0, 0, 0, 0, length, 0];
+            assert_eq!(board.call(&setup, &[]), (0, read));
+        }
+        board.session.state = state::UP_IDLE;
+        board.session.up_place = 25;
+        assert!(!board.session.fits());
     }
 
     #[test]
@@ -877,6 +1056,15 @@ mod tests {
             let mut broken = whole.clone();
             harm(&mut broken);
             assert!(!broken.fits());
+        }
+    }
+
+    #[test]
+    fn no_rule_judges_the_number() {
+        let mut session = Board::fresh().session;
+        for number in [0, 1, 16_383, 16_384, 65_536, 1 << 31, u32::MAX] {
+            session.unerased = number;
+            assert!(session.fits());
         }
     }
 
@@ -976,7 +1164,7 @@ mod tests {
         let out = step(&idle, &mut flash, &UPLOAD, &[], &mut reply);
         let sizes = (MOST << 16 | BLOCK).to_le_bytes();
         let ends = [MOST * BLOCK, (MOST - 1) * BLOCK].map(u32::to_le_bytes);
-        let info = [&sizes[..], &[0; 8], &ends.concat()].concat();
+        let info = [&sizes[..], &[0; 8], &ends.concat(), &[0xFF; 4]].concat();
         assert_eq!(reply[..out.count as usize], info);
     }
 
@@ -1009,6 +1197,7 @@ mod tests {
         for (a, b) in near.into_iter().chain(wide) {
             let (answer, session) = start(&flash, a, b, 1, 2);
             assert_eq!((answer, &session), (2, &Session::zeros()));
+            assert_eq!(session.unerased, 0);
             assert!(!session.fits());
         }
     }

@@ -4,7 +4,11 @@
 use crate::dice::Dice;
 use crate::histories::SMALL;
 use crate::second::{joined, state, status, Session};
-use crate::second::{BLOCK, FLASH_STREAM, INFO_STREAM, MOST_BLOCKS};
+use crate::second::{BLOCK, FLASH_STREAM, INFO_STREAM, MOST_BLOCKS, NONE};
+
+/// As many bytes has the info stream, and so many stand before its last number.
+pub const INFO_BYTES: u32 = 24;
+pub const INFO_BEFORE_LAST: u32 = 20;
 
 const STATES: [u8; 6] = [
     state::IDLE,
@@ -23,8 +27,8 @@ const STATUSES: [u8; 5] = [
     status::STALL,
 ];
 
-/// A fit session for a flash of `b` blocks. Its sums are anything, since no
-/// rule judges them.
+/// A fit session for a flash of `b` blocks. Its sums and the address that a
+/// search left are anything, since no rule judges them.
 pub fn fit(dice: &mut Dice, b: u32) -> Session {
     let a = some_first(dice, b);
     let state = match dice.below(9) {
@@ -39,6 +43,7 @@ pub fn fit(dice: &mut Dice, b: u32) -> Session {
         part1: dice.turn() as u32,
         state,
         after: state::IDLE,
+        unerased: some_address(dice, a, b),
         ..Session::zeros()
     };
     for sum in &mut session.sums {
@@ -57,6 +62,18 @@ fn some_first(dice: &mut Dice, b: u32) -> u32 {
         0..=3 if b > SMALL => b - 1 - dice.below(8),
         4..=5 if b > SMALL => 1 + dice.below(SMALL - 1),
         _ => 1 + dice.below(b - 1),
+    }
+}
+
+/// What a search may have left, or could not have: an address of the application
+/// with a liking for its ends, none, or a number of any size.
+pub fn some_address(dice: &mut Dice, a: u32, b: u32) -> u32 {
+    match dice.below(8) {
+        0..=1 => NONE,
+        2 => 0,
+        3..=5 => between(dice, a * BLOCK, b * BLOCK - 1),
+        6 => [a * BLOCK - 1, b * BLOCK, NONE - 1, a][dice.below(4) as usize],
+        _ => dice.turn() as u32,
     }
 }
 
@@ -96,7 +113,7 @@ fn choose_upload(dice: &mut Dice, session: &mut Session) {
 }
 
 /// A place up to the stream's end, at times one from which address 65,536, place
-/// 65,536 or the last byte is read.
+/// 65,536, the last byte or the last of the info numbers is read.
 fn upload_place(dice: &mut Dice, session: &Session) -> u32 {
     let prefix = 8 * u32::from(session.up_prefix);
     let end = stream_end(session);
@@ -105,13 +122,15 @@ fn upload_place(dice: &mut Dice, session: &Session) -> u32 {
         0..=1 if (1_024..end).contains(&before) => before + prefix - 1 - dice.below(1_024),
         2 if end > 1 << 16 => (1 << 16) - 1 - dice.below(1_023),
         3 => end - 1 - dice.below(end.min(1_024)),
+        4 if session.up_choice == INFO_STREAM => INFO_BEFORE_LAST,
+        5 if session.up_choice == INFO_STREAM => INFO_BEFORE_LAST - 1 + dice.below(6),
         _ => between(dice, 0, end),
     }
 }
 
 fn stream_end(session: &Session) -> u32 {
     match session.up_choice {
-        INFO_STREAM => 20,
+        INFO_STREAM => INFO_BYTES,
         _ => session
             .up_len
             .wrapping_add(8 * u32::from(session.up_prefix)),
@@ -208,7 +227,7 @@ pub fn altered(dice: &mut Dice, mut session: Session) -> Session {
         0 => BYTES[dice.below(BYTES.len() as u32) as usize],
         _ => STATES[dice.below(6) as usize],
     };
-    match dice.below(14) {
+    match dice.below(15) {
         0 => session.a = number,
         1 => session.b = number,
         2 => session.state = byte,
@@ -221,7 +240,8 @@ pub fn altered(dice: &mut Dice, mut session: Session) -> Session {
         9 => session.up_first = number,
         10 => session.up_len = past(end.wrapping_sub(session.up_first.wrapping_mul(BLOCK))),
         11 => session.up_place = past(stream_end(&session)),
-        12 => session.sums[dice.below(MOST_BLOCKS as u32) as usize] = number,
+        12 => session.unerased = number,
+        13 => session.sums[dice.below(MOST_BLOCKS as u32) as usize] = number,
         _ => session.whole = number,
     }
     session
@@ -244,7 +264,7 @@ fn strange_number(dice: &mut Dice, session: &Session) -> u32 {
         end.wrapping_sub(session.up_first.wrapping_mul(BLOCK)),
         session.up_len,
         session.up_len.wrapping_add(8),
-        20,
+        INFO_BYTES,
         MOST_BLOCKS as u32,
         MOST_BLOCKS as u32 * BLOCK,
         session.up_first.wrapping_add(1 << 22),
@@ -284,6 +304,25 @@ mod tests {
                 assert!(session.fits(), "{session:?}");
             }
         }
+    }
+
+    /// Every fourth has none, and as many an address of the application.
+    #[test]
+    fn any_address_may_have_been_found() {
+        let mut dice = Dice::new(4);
+        let mut seen = [0; 5];
+        for _ in 0..4_000 {
+            seen[match some_address(&mut dice, 2, 9) {
+                NONE => 0,
+                0 => 1,
+                2_048 => 2,
+                9_215 => 3,
+                _ => 4,
+            }] += 1;
+        }
+        assert!(seen.iter().all(|times| *times > 100), "{seen:?}");
+        let all = (0..4_000).map(|_| some_address(&mut dice, 2, 9));
+        assert!(all.filter(|found| (2_048..9_216).contains(found)).count() > 1_000);
     }
 
     /// How many are wrong, and whether the whole is then right for the flash or

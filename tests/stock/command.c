@@ -4,7 +4,7 @@
  *   command VID:PID erase BLOCK COUNT     sets COUNT blocks to 0xFF
  *   command VID:PID check BLOCK LENGTH    asks whether they are
  *   command VID:PID read BLOCK LENGTH     chooses what the next upload reads
- *   command VID:PID info                  the next upload reads the 20 info bytes
+ *   command VID:PID info                  the next upload reads the 24 info bytes
  *   command VID:PID bin 0|1               uploads begin with a prefix (0) or without (1)
  *   command VID:PID reset                 asks the board to restart
  *

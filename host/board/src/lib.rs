@@ -111,6 +111,33 @@ mod tests {
         assert_eq!(reply[..5], [0x4D, 0x4C, 0x01, 0x20, 0xEE]);
     }
 
+    /// What the header says of `unerased`: the address of the first byte that was
+    /// found, which a refusal keeps, INFO reports at its end and RESET forgets.
+    #[test]
+    fn an_address_is_kept_and_reported() {
+        let mut flash = vec![0xFF; 4_096];
+        (flash[3_000], flash[3_001]) = (0xFE, 0);
+        let mut session = start(&flash, 1, 4, 0, 0).session;
+        let mut reply = [0xEE; 1_024];
+        let mut asked = |setup: &[u8], data: &[u8]| {
+            let answer = request(&mut session, &mut flash, setup, data, &mut reply);
+            let said = &reply[..answer.count as usize];
+            (answer.code, session.unerased, said.to_vec())
+        };
+        let (dnload, clear) = ([0x21, 1, 0, 0, 0, 0, 8, 0], [0x21, 4, 0, 0, 0, 0, 0, 0]);
+        let found = |code| (code, 3_000, Vec::new());
+        assert_eq!(asked(&dnload, &[3, 0, 1, 0, 0, 12, 0, 0]), found(3));
+        assert_eq!(asked(&clear, &[]), found(0));
+        assert_eq!(asked(&dnload, &[3, 0, 1, 0, 1, 12, 0, 0]), found(3));
+        assert_eq!(asked(&clear, &[]), found(0));
+        assert_eq!(asked(&dnload, &[5, 0, 0, 0, 0, 0, 0, 0]), found(0));
+        asked(&[0xA1, 3, 0, 0, 0, 0, 6, 0], &[]);
+        let (_, _, info) = asked(&[0xA1, 2, 0, 0, 0, 0, 25, 0], &[]);
+        assert_eq!((info.len(), &info[20..]), (24, &[0xB8, 0x0B, 0, 0][..]));
+        let none = (4, 0xFFFF_FFFF, Vec::new());
+        assert_eq!(asked(&dnload, &[7, 0, 0, 0, 0, 0, 0, 0]), none);
+    }
+
     /// Eight streams go over blocks of 32 to 1,024 bytes, so every length up to two of
     /// the largest and some more is tried, from each place beside a multiple of eight.
     #[test]

@@ -1,5 +1,6 @@
 //! The proved search for a byte that is not erased, swept place by place. What it
-//! must answer needs no second loader: a byte is found if it lies in the range.
+//! must answer, and the address that it must leave, need no second loader: a byte is
+//! found if it lies in the range, and none before it.
 
 use mullirim_board::{request, start, Session};
 use mullirim_host::layout::{Download, Phase};
@@ -12,6 +13,10 @@ const FAULTED: u32 = answer::FAULTED as u32;
 const FIRST: u32 = 1;
 const BLOCKS: u32 = 5;
 const FLASH: usize = (BLOCKS * BLOCK) as usize;
+/// What stands for an address before a search, which must put another in its place.
+const STOOD: u32 = 0x1234_5678;
+/// What it leaves where it found none.
+const NONE: u32 = 0xFFFF_FFFF;
 /// How many bytes lie around the flash that is lent, on either side at least.
 const AROUND: usize = 32;
 
@@ -23,8 +28,9 @@ struct Board {
     session: Session,
 }
 
-/// What a request comes to: the answer, and where the session stands.
-type Left = (u32, Phase, Download);
+/// What a request comes to: the answer, where the session stands, and the address
+/// that it keeps.
+type Left = (u32, Phase, Download, u32);
 
 /// A PROG or CHECK of so many bytes, from the start of a block on.
 #[derive(Clone, Copy, Debug)]
@@ -40,8 +46,9 @@ impl Asked<'_> {
         (self.block * BLOCK) as usize
     }
 
-    /// What it comes to where the range is all erased, and where it is not.
-    fn awaited(&self, erased: bool) -> Left {
+    /// What it comes to where this is the first byte that is not erased, counted
+    /// from the range's start; outside of the range it doesn't matter.
+    fn awaited(&self, first: Option<isize>) -> Left {
         let phase = |state, status, after| Phase {
             state,
             status,
@@ -52,10 +59,12 @@ impl Asked<'_> {
             place: (self.start() + self.data.len()) as u32,
             left: (self.length - self.data.len()) as u32,
         };
-        match (erased, self.number) {
-            (false, _) => (FAULTED, phase(state::ERROR, status::NOT_ERASED, 2), none),
-            (_, command::PROG) => (TAKEN, phase(state::DOWN_SYNC, 0, 5), runs),
-            _ => (TAKEN, phase(state::DOWN_SYNC, 0, 2), none),
+        let refused = phase(state::ERROR, status::NOT_ERASED, 2);
+        let within = first.filter(|place| (0..self.length as isize).contains(place));
+        match (within, self.number) {
+            (Some(place), _) => (FAULTED, refused, none, self.start() as u32 + place as u32),
+            (_, command::PROG) => (TAKEN, phase(state::DOWN_SYNC, 0, 5), runs, NONE),
+            _ => (TAKEN, phase(state::DOWN_SYNC, 0, 2), none, NONE),
         }
     }
 }
@@ -68,11 +77,14 @@ impl Board {
         let flash = &memory[from..from + FLASH];
         assert_eq!(flash.as_ptr() as usize % 8, shift);
         let started = start(flash, FIRST, BLOCKS, 0, 0);
-        assert_eq!(started.code, TAKEN);
+        assert_eq!((started.code, started.session.unerased), (TAKEN, NONE));
         Board {
             memory,
             from,
-            session: started.session,
+            session: Session {
+                unerased: STOOD,
+                ..started.session
+            },
         }
     }
 
@@ -97,15 +109,20 @@ impl Board {
         awaited[self.from + asked.start()..][..written.len()].copy_from_slice(written);
         assert!(self.memory == awaited, "{asked:?}");
         self.memory.copy_from_slice(&before);
-        (answer.code, session.phase, session.download)
+        let Session {
+            phase,
+            download,
+            unerased,
+            ..
+        } = session;
+        (answer.code, phase, download, unerased)
     }
 
     /// Asks with one byte set, this far from the range's start.
     fn ask_with(&mut self, asked: &Asked, place: isize, value: u8) {
         let at = (self.from + asked.start()).wrapping_add_signed(place);
         self.memory[at] = value;
-        let found = (0..asked.length as isize).contains(&place);
-        let awaited = asked.awaited(!found);
+        let awaited = asked.awaited(Some(place));
         assert_eq!(
             self.ask(asked),
             awaited,
@@ -117,7 +134,7 @@ impl Board {
     /// None, and then one byte at each place from one before the range to
     /// sixteen behind it.
     fn sweep(&mut self, asked: &Asked, value: u8) {
-        assert_eq!(self.ask(asked), asked.awaited(true), "{asked:?}");
+        assert_eq!(self.ask(asked), asked.awaited(None), "{asked:?}");
         for place in -1..=asked.length as isize + 16 {
             self.ask_with(asked, place, value);
         }
@@ -178,13 +195,14 @@ fn a_check_of_the_most_blocks_finds_a_byte_in_each() {
     let checked = |flash: &mut [u8]| {
         let mut session = session;
         let setup = setup(0x21, 1, asked.len() as u16);
-        request(&mut session, flash, &setup, &asked, &mut [0; 1_024]).code
+        let code = request(&mut session, flash, &setup, &asked, &mut [0; 1_024]).code;
+        (code, session.unerased)
     };
-    assert_eq!(checked(&mut flash), TAKEN);
+    assert_eq!(checked(&mut flash), (TAKEN, NONE));
     for block in 0..MOST_BLOCKS {
         for place in [0, 7, 8, 1_023].map(|place| block * BLOCK as usize + place) {
             flash[place] = 0x7F;
-            let awaited = [FAULTED, TAKEN][usize::from(block == 0)];
+            let awaited = [(FAULTED, place as u32), (TAKEN, NONE)][usize::from(block == 0)];
             assert_eq!(checked(&mut flash), awaited, "{place}");
             flash[place] = ERASED;
         }
@@ -205,9 +223,26 @@ fn a_check_looks_at_nothing_but_its_range() {
         for length in lengths() {
             let asked = check(2, length);
             board.memory[from..from + length].fill(ERASED);
-            assert_eq!(board.ask(&asked), asked.awaited(true));
+            assert_eq!(board.ask(&asked), asked.awaited(None));
             let more = check(2, length + 1);
-            assert_eq!(board.ask(&more), more.awaited(false));
+            assert_eq!(board.ask(&more), more.awaited(Some(length as isize)));
+        }
+    });
+}
+
+/// Any two bytes of four eights and some more, over the border of two blocks too.
+#[test]
+fn a_check_names_the_first_of_two() {
+    at_each_alignment(|board| {
+        for (from, length) in [(0, 37), (1_000, 1_037)] {
+            let asked = check(2, length);
+            let start = board.from + asked.start();
+            for (one, other) in (from..length).flat_map(|one| (one..length).map(move |b| (one, b)))
+            {
+                (board.memory[start + one], board.memory[start + other]) = (0x7F, 0);
+                assert_eq!(board.ask(&asked), asked.awaited(Some(one as isize)));
+                board.memory[start..start + length].fill(ERASED);
+            }
         }
     });
 }

@@ -3,7 +3,7 @@
 
 use mullirim_host::bundle::{self, unwritten};
 use mullirim_host::layout::{Struct, STRUCTS};
-use mullirim_host::second::{answer, BLOCK, MOST_BLOCKS, TRANSFER};
+use mullirim_host::second::{answer, BLOCK, MOST_BLOCKS, NONE, TRANSFER};
 use mullirim_host::suffix::{self, refusal};
 
 fn main() {
@@ -11,6 +11,7 @@ fn main() {
         ("MULLIRIM_BLOCK", BLOCK as usize),
         ("MULLIRIM_MOST_BLOCKS", MOST_BLOCKS),
         ("MULLIRIM_REPLY_ROOM", TRANSFER),
+        ("MULLIRIM_NONE", NONE as usize),
         ("MULLIRIM_TAKEN", answer::TAKEN.into()),
         ("MULLIRIM_STALLED", answer::STALLED.into()),
         ("MULLIRIM_UNFIT", answer::UNFIT.into()),

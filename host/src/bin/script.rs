@@ -31,7 +31,7 @@ fn named(words: &[String]) -> Option<Vec<u8>> {
 #[cfg(test)]
 mod tests {
     use super::*;
-    use mullirim_host::second::{start, step, Session, TRANSFER};
+    use mullirim_host::second::{start, step, Session, NONE, TRANSFER};
     use mullirim_host::tape::{first_flash, read_head, read_record};
 
     /// Every session a script leads to, with the answer before it. Each must
@@ -73,6 +73,21 @@ mod tests {
     #[test]
     fn the_session_reaches_all() {
         reaches_all(&sessions(&session::script()));
+    }
+
+    /// The first byte of block 17 as a range's first and last, that of block 19
+    /// too, and none after each.
+    #[test]
+    fn the_session_finds_bytes_and_none() {
+        let seen = sessions(&session::script());
+        for found in [17 * 1_024, 19 * 1_024, NONE] {
+            let kept = seen.iter().filter(|(_, now)| now.unerased == found);
+            assert!(kept.count() > 20, "{found}");
+        }
+        let steps = seen.windows(2);
+        let cleared = steps.filter(|two| two[0].1.unerased != NONE && two[1].1.unerased == NONE);
+        let by: Vec<u8> = cleared.map(|two| two[1].0).collect();
+        assert!(by.contains(&0) && by.contains(&4), "{by:?}");
     }
 
     #[test]

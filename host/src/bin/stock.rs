@@ -29,11 +29,12 @@ use std::process::ExitCode;
 /// A case tries something on the bench, and says what was not as it should be.
 type Case = fn(&mut Bench) -> Result<(), String>;
 
-const CASES: [(&str, Case); 32] = [
+const CASES: [(&str, Case); 33] = [
     ("list", uploads::list),
     ("upload whole", uploads::whole),
     ("upload what a command chose", uploads::chosen),
     ("upload from a board of the most blocks", uploads::far),
+    ("upload where it was not erased", uploads::where_not_erased),
     ("upload in small requests", uploads::small),
     ("upload onto a file that is there", uploads::onto_a_file),
     ("download odd lengths", downloads::odd_lengths),

@@ -45,6 +45,20 @@ impl Wire {
         self.status(state::IDLE)
     }
 
+    /// CLRSTATUS, which leads to state 2 from the error state.
+    pub fn clear(&mut self) -> Result<(), String> {
+        self.transfer("CLRSTATUS", &setup(0x21, 4, 0), &[])?;
+        self.status(state::IDLE)
+    }
+
+    /// The status for which the board stands in the error state, where it does.
+    pub fn fault(&mut self) -> Option<u8> {
+        match self.transfer("GETSTATUS", &setup(0xA1, 3, 6), &[]) {
+            Ok([status, _, _, _, state::ERROR, _]) => Some(*status),
+            _ => None,
+        }
+    }
+
     /// GETSTATUS must say that all is well and that the board is in `state`.
     pub fn status(&mut self, state: u8) -> Result<(), String> {
         let awaited = [0, 0, 0, 0, state, 0];
@@ -151,6 +165,18 @@ mod tests {
                    the board is in state 10, status 08";
         let outside = [4, 0, 1, 0, 1, 0, 0, 0];
         assert_eq!(wire().dnload(&outside, 2), Err(why.to_string()));
+    }
+
+    #[test]
+    fn a_fault_is_told_until_it_is_cleared() {
+        let mut wire = wire();
+        assert_eq!(wire.fault(), None);
+        assert!(wire.dnload(&[3, 0, 2, 0, 1, 0, 0, 0], 2).is_err());
+        assert_eq!((wire.fault(), wire.fault()), (Some(5), Some(5)));
+        assert_eq!((wire.clear(), wire.fault()), (Ok(()), None));
+        let why = "CLRSTATUS was answered 1 (stalled) and not 0 (taken); \
+                   the board is in state 10, status 0F";
+        assert_eq!(wire.clear(), Err(why.to_string()));
     }
 
     #[test]

@@ -23,6 +23,8 @@ mod seen;
 mod starts;
 #[path = "differ/tally.rs"]
 mod tally;
+#[path = "differ/unerased.rs"]
+mod unerased;
 #[path = "differ/unfit.rs"]
 mod unfit;
 #[path = "differ/uploads.rs"]

@@ -17,6 +17,7 @@ pub fn script() -> Vec<u8> {
     drop_a_download(&mut tape);
     fault_and_clear(&mut tape);
     choose_uploads(&mut tape);
+    tell_where(&mut tape);
     stall(&mut tape);
     unfit(&mut tape);
     tape.bytes
@@ -139,6 +140,79 @@ fn choose_uploads(tape: &mut Tape) {
     tape.get_state();
     tape.upload(1_024);
     tape.abort();
+}
+
+/// The address that the last search left, which a line shows by the sum of the
+/// info bytes alone. Blocks 17 and 19 have never been erased, and 16, 18 and 32
+/// are.
+fn tell_where(tape: &mut Tape) {
+    told(tape);
+    let found: [(u8, u16, u32, usize); 7] = [
+        (command::CHECK, 17, 1_024, 0),
+        (command::CHECK, 18, 1_025, 0),
+        (command::CHECK, 16, 1_025, 0),
+        (command::CHECK, 16, 4_096, 0),
+        (command::PROG, 19, 1, 0),
+        (command::PROG, 16, 2_000, 0),
+        (command::PROG, 18, 1_025, 9),
+    ];
+    for (number, block, length, data) in found {
+        tape.command(number, block, length, &image(data));
+        told(tape);
+    }
+    kept(tape);
+    let clean: [(u8, u32, usize); 3] = [
+        (command::CHECK, 1_024, 0),
+        (command::PROG, 1_024, 0),
+        (command::PROG, 1, 1),
+    ];
+    for (number, length, data) in clean {
+        tape.command(command::CHECK, 17, 1, &[]);
+        told(tape);
+        tape.command(number, 32, length, &image(data));
+        told(tape);
+    }
+    tape.command(command::CHECK, 19, 1, &[]);
+    tape.clr_status();
+    tape.command(command::RESET, 0, 0, &[]);
+    told(tape);
+    tape.command(command::RESET, 0, 0, &[]);
+}
+
+/// Asked from whatever state the last request led to: up to the middle of the
+/// address, then all, and what is behind the end.
+fn told(tape: &mut Tape) {
+    tape.upload(0);
+    tape.clr_status();
+    tape.command(command::INFO, 0, 0, &[]);
+    tape.get_status();
+    tape.upload(22);
+    tape.upload(1_024);
+    tape.upload(1_024);
+    tape.abort();
+}
+
+/// Commands that are refused before they search, or that never do.
+fn kept(tape: &mut Tape) {
+    let all: [(u8, u16, u32, usize); 9] = [
+        (command::CHECK, 15, 1, 0),
+        (command::CHECK, 16, 0, 0),
+        (command::CHECK, 16, 1, 1),
+        (command::PROG, 63, 1_025, 0),
+        (command::PROG, 16, 1, 2),
+        (command::PROG, 17, 1, 2),
+        (command::ERASE, 33, 1, 0),
+        (command::READ, 16, 1, 0),
+        (8, 16, 1, 0),
+    ];
+    for (number, block, length, data) in all {
+        tape.command(number, block, length, &image(data));
+        told(tape);
+    }
+    tape.dnload(&[command::CHECK, 0, 16, 0, 1, 0, 0]);
+    told(tape);
+    tape.dnload(&[]);
+    told(tape);
 }
 
 fn stall(tape: &mut Tape) {

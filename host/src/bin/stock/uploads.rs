@@ -1,7 +1,7 @@
 //! Listing, and uploads.
 
-use crate::bench::{same_bytes, written, Bench, Left, MOST};
-use crate::files::prefixed;
+use crate::bench::{erased, same_bytes, written, Bench, Left, MOST};
+use crate::files::{image, prefixed, whole_file};
 use mullirim_host::second::{state, status, BLOCK};
 
 /// The loader hears nothing of a list. A serial number finds its own board.
@@ -86,6 +86,60 @@ pub fn chosen(bench: &mut Bench) -> Result<(), String> {
         [2, 0, 0x4C, 0x4D],
         [0, 0, 1, 0],    // where the application ends
         [0, 0x40, 0, 0], // and where it starts
+        [0xFF; 4],       // nothing was searched
+    ];
+    gives(bench, &info.concat())
+}
+
+/// After a CHECK or a download that was refused for a byte that is not erased, the
+/// last info bytes are its address; after a CHECK that found none they say so.
+pub fn where_not_erased(bench: &mut Bench) -> Result<(), String> {
+    let mut flash = erased(16, 64);
+    (flash[17_000], flash[17_001], flash[65_535]) = (0xFE, 0, 0x7F);
+    bench.power_on(16, flash.clone())?;
+    let checks = [
+        ("16", "1024", status::NOT_ERASED, [0x68, 0x42, 0, 0]),
+        ("17", "1024", status::OK, [0xFF; 4]),
+        ("17", "48128", status::NOT_ERASED, [0xFF, 0xFF, 0, 0]),
+        // Refused before anything is searched.
+        ("16", "49153", status::ADDRESS, [0xFF, 0xFF, 0, 0]),
+        ("17", "48127", status::OK, [0xFF; 4]),
+    ];
+    for (block, length, code, told) in checks {
+        let run = bench.command(&["check", block, length])?;
+        let left = match code {
+            status::OK => Left::done(flash.clone()),
+            _ => refused(1, code, &flash),
+        };
+        bench.hold(&run, &left)?;
+        tells(bench, &flash, told)?;
+    }
+    bench.lay("image", &whole_file(16, &image(3_000)))?;
+    let run = bench.dfu_util(&["-D", "image"])?;
+    bench.hold(&run, &refused(74, status::NOT_ERASED, &flash))?;
+    tells(bench, &flash, [0x68, 0x42, 0, 0])
+}
+
+/// What a client leaves that was refused with this status.
+fn refused(exit: i32, code: u8, flash: &[u8]) -> Left<'static> {
+    Left {
+        exit: Some(exit),
+        phase: (state::ERROR, code),
+        ..Left::done(flash.to_vec())
+    }
+}
+
+/// The info bytes of a board on this flash end in these four.
+fn tells(bench: &mut Bench, flash: &[u8], told: [u8; 4]) -> Result<(), String> {
+    let run = bench.command(&["info"])?;
+    bench.hold(&run, &Left::done(flash.to_vec()))?;
+    let info = [
+        [0, 4, 64, 0],
+        [1, 0, 0x4C, 0x4D],
+        [2, 0, 0x4C, 0x4D],
+        [0, 0, 1, 0],
+        [0, 0x40, 0, 0],
+        told,
     ];
     gives(bench, &info.concat())
 }
@@ -110,6 +164,7 @@ pub fn far(bench: &mut Bench) -> Result<(), String> {
         [2, 0, 0x4C, 0x4D],
         (MOST * BLOCK).to_le_bytes(),
         (first * BLOCK).to_le_bytes(),
+        [0xFF; 4],
     ];
     gives(bench, &info.concat())
 }

@@ -6,6 +6,7 @@ mod plan;
 mod steps;
 mod sums;
 mod tariff;
+mod unerased;
 mod words;
 
 pub use plan::USUAL_SPLIT;
@@ -64,7 +65,7 @@ mod tests {
     fn help_names_every_flag() {
         let (went, text) = shown(&["--help"]);
         assert_eq!(went, Ok(()));
-        for flag in ["--flash", "--image", "--split", "--save", "--after"] {
+        for flag in "--flash --image --plain --split --no-erase --save --after".split(' ') {
             assert!(text.contains(flag));
         }
     }

@@ -16,6 +16,8 @@ pub struct Plan {
     pub flash: Vec<u8>,
     pub flash_name: String,
     pub first: u16,
+    /// Whether the application is erased before the download.
+    pub erase: bool,
     pub image: Vec<u8>,
     pub image_name: String,
     /// What a technician should know of the image before anything is done with
@@ -51,6 +53,7 @@ pub fn judge(words: Words) -> Result<Plan, String> {
         flash_name: name(&words.flash, "the built-in flash with the old tariff"),
         flash: given.unwrap_or_else(|| tariff::flash(first)),
         first,
+        erase: words.no_erase.is_none(),
         image_name,
         image,
         found,
@@ -105,6 +108,7 @@ mod tests {
     fn without_files_all_is_built_in() {
         let plan = judge(Words::default()).unwrap();
         assert_eq!((plan.flash.len(), plan.first), (65_536, 16));
+        assert!(plan.erase);
         assert_eq!(plan.image.len(), 24_576);
         assert_eq!(plan.notes.len(), 2);
     }

@@ -3,6 +3,7 @@
 
 use super::plan::Plan;
 use super::sums;
+use super::unerased::explained;
 use crate::names::shown;
 use crate::screen::{counted, grouped, Screen};
 use crate::store::write;
@@ -36,7 +37,10 @@ pub fn visit<W: Write>(plan: &Plan, screen: &mut Screen<W>) -> Result<(), String
 fn serve<W: Write>(wire: &mut Wire, plan: &Plan, screen: &mut Screen<W>) -> Result<(), String> {
     let old = wire.session.sums;
     at(2, "read back", read_back(wire, plan, screen))?;
-    at(3, "erase", erase(wire, plan, screen))?;
+    match plan.erase {
+        true => at(3, "erase", erase(wire, plan, screen))?,
+        false => screen.step(3, "Erase", "left out (--no-erase)"),
+    }
     at(4, "download", download(wire, plan, screen))?;
     sums::show(wire, &old, screen);
     at(6, "check", sums::check(wire))?;
@@ -131,7 +135,8 @@ fn download<W: Write>(wire: &mut Wire, plan: &Plan, screen: &mut Screen<W>) -> R
     for note in &plan.notes {
         screen.under(note);
     }
-    let pieces = send(wire, plan, screen)?;
+    let sent = send(wire, plan, screen);
+    let pieces = sent.map_err(|why| explained(wire, plan.erase, why))?;
     wire.dnload(&[], state::IDLE)?;
     screen.under(&format!(
         "{}, closed in state 2, status 00",
@@ -158,8 +163,15 @@ fn send<W: Write>(wire: &mut Wire, plan: &Plan, screen: &mut Screen<W>) -> Resul
 
 fn arrived(wire: &Wire, plan: &Plan) -> Result<(), String> {
     let (image, rest) = wire.application().split_at(plan.image.len());
-    if image != plan.image || rest.iter().any(|byte| *byte != ERASED) {
-        return Err("the application is not the image with erased bytes after it".to_string());
+    let kept = &plan.flash[plan.flash.len() - rest.len()..];
+    let (whole, after) = match plan.erase {
+        true => (rest.iter().all(|byte| *byte == ERASED), "erased bytes"),
+        false => (rest == kept, "what stood there"),
+    };
+    if image != plan.image || !whole {
+        return Err(format!(
+            "the application is not the image with {after} after it"
+        ));
     }
     if !plan.flash.starts_with(wire.boot_area()) {
         return Err("the boot area is not as it was".to_string());
@@ -185,6 +197,7 @@ mod tests {
             flash: (0..4_096).map(|i| (i % 249) as u8).collect(),
             flash_name: "a small flash".to_string(),
             first: 2,
+            erase: true,
             image,
             image_name: "a small image".to_string(),
             found: vec!["what was found around it".to_string()],
@@ -300,9 +313,50 @@ mod tests {
     fn a_flash_that_is_not_erased_takes_no_download() {
         let plan = plan(vec![1]);
         let went = download(&mut wire(&plan), &plan, &mut Screen::new(Vec::new(), None));
-        let why = "DNLOAD was answered 3 (faulted) and not 0 (taken); \
-                   the board is in state 10, status 05";
+        let why = "the application was erased, and still the board found a byte that is not FF \
+                   at address 0x800 (2,048), in block 2; nothing was programmed; erase it once \
+                   more, and if that does not help, the flash is worn out";
         assert_eq!(went, Err(why.to_string()));
+    }
+
+    /// A visit without an erase of an application that is erased but for this byte.
+    fn not_erased(image: Vec<u8>, byte: usize) -> (Result<(), String>, Plan, Vec<u8>, String) {
+        let mut plan = plan(image);
+        plan.erase = false;
+        plan.flash[2_048..].fill(0xFF);
+        plan.flash[byte] = 0;
+        let (went, wire, text) = visited(&plan);
+        (went, plan, wire.flash, text)
+    }
+
+    #[test]
+    fn without_an_erase_the_board_says_where_it_was_needed() {
+        for (byte, place) in [
+            (2_048, "0x800 (2,048), in block 2"),
+            (3_071, "0xBFF (3,071), in block 2"),
+            (3_547, "0xDDB (3,547), in block 3"),
+        ] {
+            let (went, plan, flash, text) = not_erased(vec![0x42; 1_500], byte);
+            let why = format!(
+                "ended at step 4, download: the application was not erased, and nothing was \
+                 programmed: the board found a byte that is not FF at address {place}; a visit \
+                 without --no-erase erases it first"
+            );
+            assert_eq!(went, Err(why));
+            assert_eq!(flash, plan.flash);
+            assert!(text.contains("3 Erase      left out (--no-erase)\n4 Download"));
+        }
+    }
+
+    /// What lies behind the image is neither searched nor changed.
+    #[test]
+    fn without_an_erase_an_image_goes_where_it_is_erased() {
+        for byte in [2_047, 3_548, 4_095] {
+            let (went, plan, flash, _) = not_erased(vec![0x42; 1_500], byte);
+            let before = &plan.flash;
+            let left = [&before[..2_048], &plan.image, &before[3_548..]].concat();
+            assert_eq!((went, flash == left), (Ok(()), true));
+        }
     }
 
     #[test]
@@ -326,6 +380,12 @@ mod tests {
             wire.flash[byte] ^= 1;
         }
         assert_eq!(arrived(&wire, &plan), Ok(()));
+        let kept = Plan {
+            erase: false,
+            ..plan
+        };
+        let why = "the application is not the image with what stood there after it";
+        assert_eq!(arrived(&wire, &kept), Err(why.to_string()));
     }
 
     #[test]

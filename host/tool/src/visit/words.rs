@@ -24,6 +24,8 @@ downloads the corrected image and shows which block sums changed.
   --plain        take the file of --image as it stands: nothing is looked
                  for around the image, and nothing is taken off
   --split A      the block at which the application starts (without it: 16)
+  --no-erase     leave the erase out: where the application is not erased,
+                 the board refuses the download and says at which address
   --save FILE    write the application as it was read back
   --after FILE   write the flash as the visit left it, done or not
   --help         this text
@@ -48,6 +50,7 @@ pub struct Words {
     pub image: Option<PathBuf>,
     pub plain: Option<()>,
     pub split: Option<u16>,
+    pub no_erase: Option<()>,
     pub save: Option<PathBuf>,
     pub after: Option<PathBuf>,
 }
@@ -79,6 +82,7 @@ impl Words {
             "--image" => once(&mut self.image, flag, file(flag, rest.next())?),
             "--plain" => once(&mut self.plain, flag, ()),
             "--split" => once(&mut self.split, flag, block(flag, rest.next())?),
+            "--no-erase" => once(&mut self.no_erase, flag, ()),
             "--save" => once(&mut self.save, flag, file(flag, rest.next())?),
             "--after" => once(&mut self.after, flag, file(flag, rest.next())?),
             _ => Err(unknown(flag)),
@@ -152,12 +156,13 @@ mod tests {
     #[test]
     fn each_flag_has_its_place() {
         let words = ["--flash", "f", "--plain", "--image", "i", "--split", "7"];
-        let more = ["--save", "s", "--after", "a"];
+        let more = ["--save", "s", "--no-erase", "--after", "a"];
         let found = Words {
             flash: Some("f".into()),
             image: Some("i".into()),
             plain: Some(()),
             split: Some(7),
+            no_erase: Some(()),
             save: Some("s".into()),
             after: Some("a".into()),
         };
@@ -206,6 +211,8 @@ mod tests {
         refused(&["--save", "a", "--save", "b"], "--save is given twice");
         let plain = ["--image", "i", "--plain", "--plain"];
         refused(&plain, "--plain is given twice");
+        let erase = ["--no-erase", "--no-erase"];
+        refused(&erase, "--no-erase is given twice");
     }
 
     #[test]

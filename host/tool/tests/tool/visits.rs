@@ -1,6 +1,6 @@
 //! `mullirim visit`, and help everywhere.
 
-use crate::folder::{some_flash, Folder};
+use crate::folder::{some_flash, Folder, Said};
 use mullirim_host::second::{start, MOST_BLOCKS};
 
 #[test]
@@ -20,7 +20,7 @@ fn help_tells_of_the_board() {
     help_tells(
         &["visit", "--fast"],
         "mullirim visit: a technician's visit",
-        "--flash|--image|--plain|--split|--save|--after|--help",
+        "--flash|--image|--plain|--split|--no-erase|--save|--after|--help",
     );
     help_tells(
         &["sums", "a", "b"],
@@ -124,5 +124,51 @@ fn a_flash_of_the_most_blocks_is_visited() {
         assert!(said.contains(&sums_shown(&flash, &left, first)), "{said}");
         assert!(said.ends_with("Done: the image is in place and every sum is right.\n"));
         assert!(said.lines().all(|line| line.len() < 80), "{said}");
+    }
+}
+
+/// An application of the most blocks that is erased but for these bytes, from block
+/// 16 on, and a visit to it that erases nothing and sends this many bytes.
+fn sent_unerased(folder: &Folder, places: &[usize], length: usize) -> (Vec<u8>, Said) {
+    let mut flash = some_flash(7, MOST_BLOCKS as u32);
+    flash[16_384..].fill(0xFF);
+    places.iter().for_each(|place| flash[*place] = 0x7F);
+    folder.put("f", &flash);
+    folder.put("i", vec![0x31; length]);
+    let words = ["visit", "--flash", "f", "--image", "i", "--after", "a"];
+    (flash, folder.run(&[&words[..], &["--no-erase"]].concat()))
+}
+
+#[test]
+fn a_visit_without_an_erase_says_where_one_was_needed() {
+    let folder = Folder::new("unerased");
+    for (places, told) in [
+        (&[16_384, 200_000][..], "0x4000 (16,384), in block 16"),
+        (&[200_000, 200_001], "0x30D40 (200,000), in block 195"),
+        (&[262_143], "0x3FFFF (262,143), in block 255"),
+    ] {
+        let (flash, said) = sent_unerased(&folder, places, 262_144 - 16_384);
+        let why = format!(
+            "mullirim visit: ended at step 4, download: the application was not erased, and \
+             nothing was programmed: the board found a byte that is not FF at address {told}; \
+             a visit without --no-erase erases it first\n"
+        );
+        assert_eq!((said.code, said.err), (Some(1), why));
+        assert!(said.out.contains("3 Erase      left out (--no-erase)\n"));
+        assert_eq!(folder.get("a"), flash);
+    }
+}
+
+#[test]
+fn a_visit_without_an_erase_is_done_where_none_was_needed() {
+    let folder = Folder::new("erased");
+    for length in [1, 5_000] {
+        let (mut flash, said) = sent_unerased(&folder, &[16_383, 21_384, 200_000], length);
+        flash[16_384..16_384 + length].fill(0x31);
+        assert_eq!((said.code, &*said.err), (Some(0), ""));
+        assert_eq!(folder.get("a"), flash);
+        assert!(said
+            .out
+            .ends_with("Done: the image is in place and every sum is right.\n"));
     }
 }

@@ -4,7 +4,7 @@
 use crate::commands::{Where, NAMED};
 use crate::eights::Lone;
 use crate::rows::Rows;
-use crate::seen::{bytes, Command, Seen};
+use crate::seen::{bytes, Command, Seen, INFO_BYTES};
 use crate::unfit::reasons;
 use mullirim_host::histories::SMALL;
 use mullirim_host::second::{answer, command, state, status, Session, INFO_STREAM, MOST_BLOCKS};
@@ -115,7 +115,8 @@ impl Rows {
         for (what, holds) in INFO {
             self.add(format!("upload of the info bytes: {what}"), move |seen| {
                 let info = seen.upload.is_some() && seen.lent().up_choice == INFO_STREAM;
-                info && seen.lent().up_place == 0 && seen.outcome.count == 20 && holds(seen.lent())
+                let whole = seen.lent().up_place == 0 && seen.outcome.count == INFO_BYTES;
+                info && whole && holds(seen.lent())
             });
         }
     }
@@ -278,8 +279,12 @@ const READ: [(&str, Read); 6] = [
 
 type Info = fn(&Session) -> bool;
 
-const INFO: [(&str, Info); 2] = [
+const INFO: [(&str, Info); 3] = [
     ("of the most blocks", |lent| lent.b == MOST),
+    (
+        "a byte not erased at an address of more than 16 bits",
+        |lent| u64::from(lent.unerased) >= WIDE && bytes(lent.b) > lent.unerased.into(),
+    ),
     (
         "an application at an address of more than 16 bits",
         |lent| bytes(lent.a) >= WIDE,

@@ -1,6 +1,6 @@
-//! The rows that a request can fall under, those of the paper, of the search and
-//! of the whole sum, each with how often one did. A run that leaves a row out has
-//! compared too little.
+//! The rows that a request can fall under, those of the paper, of the search, of
+//! the address that it leaves and of the whole sum, each with how often one did. A
+//! run that leaves a row out has compared too little.
 
 use crate::seen::{Form, Part, Seen, FORMS, STATES};
 use crate::unfit::{reasons, REASONS};
@@ -30,6 +30,7 @@ impl Rows {
         rows.uploads();
         rows.large();
         rows.joins();
+        rows.unerased();
         rows
     }
 

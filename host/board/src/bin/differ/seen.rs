@@ -2,6 +2,7 @@
 
 use crate::eights::Lone;
 use crate::joins::Refresh;
+use crate::unerased::Found;
 use mullirim_host::histories::Call;
 use mullirim_host::second::{answer, state, status, Outcome, Session, BLOCK};
 use std::ops::{Range, RangeInclusive};
@@ -16,6 +17,9 @@ pub struct Form {
 }
 
 pub const STATES: [u8; 6] = [2, 3, 5, 6, 9, 10];
+
+/// As many bytes has the info stream.
+pub const INFO_BYTES: u32 = 24;
 
 const fn form(
     name: &'static str,
@@ -52,6 +56,8 @@ pub struct Seen<'a> {
     pub command: Option<Command<'a>>,
     /// Where a range was not erased by one byte alone.
     pub lone: Option<Lone>,
+    /// The byte that a search found, by the session that it left.
+    pub found: Option<Found>,
     /// The length of the data of a DNLOAD of good form in state 5.
     pub piece: Option<u32>,
     /// The bytes asked for by an UPLOAD that was taken.
@@ -74,6 +80,7 @@ impl<'a> Seen<'a> {
             flash,
             command: None,
             lone: None,
+            found: None,
             piece: None,
             upload: None,
             refresh: Refresh::new(call, outcome, right),
@@ -87,7 +94,9 @@ impl<'a> Seen<'a> {
         seen.command = command.then_some(Command { bytes });
         if seen.faulted(status::NOT_ERASED) {
             let range = seen.command.as_ref().map(Command::range);
-            seen.lone = range.and_then(|range| Lone::new(flash, range));
+            let at = seen.next().unerased.into();
+            seen.lone = range.clone().and_then(|range| Lone::new(flash, range));
+            seen.found = range.and_then(|range| Found::new(flash, range, at));
         }
         seen.piece = piece.then_some(bytes.len() as u32);
         seen.upload = upload.then_some(seen.length());

@@ -1,7 +1,7 @@
 //! Why a request is unfit: the paper's reasons and the session's rules, each by
 //! itself, so that a run can tell whether each was ever the only one.
 
-use crate::seen::{bytes, Seen, STATES};
+use crate::seen::{bytes, Seen, INFO_BYTES, STATES};
 use mullirim_host::second::{Session, MOST_BLOCKS, TRANSFER};
 
 /// Every reason. `A not below B` leaves no application to judge a range by.
@@ -99,7 +99,7 @@ fn upload(seen: &Seen) -> [bool; 8] {
     let some = session.a < session.b;
     let info = session.up_choice == 1;
     let end = match info {
-        true => 20,
+        true => INFO_BYTES.into(),
         false => u64::from(session.up_len) + 8 * u64::from(session.up_prefix),
     };
     let past = session.state == 9 && u64::from(session.up_place) > end;

@@ -1,7 +1,7 @@
 //! The rows of uploads, for each of the three streams.
 
 use crate::rows::Rows;
-use crate::seen::Seen;
+use crate::seen::{Seen, INFO_BYTES};
 
 impl Rows {
     pub fn uploads(&mut self) {
@@ -48,7 +48,7 @@ const ROWS: [(&str, Which); 9] = [
     ("all that was left, and asked", |seen, asked| {
         let lent = seen.lent();
         let left = match lent.up_choice {
-            1 => 20 - lent.up_place,
+            1 => INFO_BYTES - lent.up_place,
             _ => lent.up_len + 8 * u32::from(lent.up_prefix) - lent.up_place,
         };
         asked == left
