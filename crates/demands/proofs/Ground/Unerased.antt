@@ -6,7 +6,7 @@ use mathlib.Core.Path.{_≡_, sym, ap, subst⁻¹, _∙_}
 use native.Mathlib.Decide.{ℕ-discrete, decLt}
 use native.Mathlib.Omega.{arith}
 use lib.ListN.{length, getD}
-use Rattle.flash.specs.Flash.{startOf, searched, nothing, nowhere, foundNumber}
+use Rattle.flash.specs.Flash.{startOf, searched, nothing, foundNumber}
 use Rattle.flash.specs.declared.Found.{Found}
 use Rattle.flash.proofs.Unerased.{first-found}
 use Rattle.command.specs.Download.{allErased}

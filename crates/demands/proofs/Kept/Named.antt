@@ -21,7 +21,6 @@ use Rattle.session.proofs.Tests.{right-of, either}
 use Rattle.numbers.specs.Numbers.{wordAt, longAt}
 use Rattle.request.specs.Request.{requestOf}
 use Rattle.request.specs.declared.Request.{Request}
-use Rattle.answers.specs.declared.Outcome.{Outcome}
 use Rattle.answers.specs.Answers.{Leaves, Told}
 use Rattle.answers.specs.Moves.{movedTo, stallOf, unfitOf, faultOf, resetOf}
 use Rattle.command.specs.Download.{infoOf, binOf}
