@@ -165,10 +165,11 @@ pub fn unfit(s: Session) -> Heard
 pub fn faulted(s: Session, status: u8) -> Heard
     ensures { λ r. ⌜ heardAt s r ≡ faultOf s status ⌝ }
 {
+    let talk = error(s, status);
     Heard {
         answer: Answer::Faulted,
         count: 0,
-        talk: error(s, status),
+        talk: talk,
     }
 }
 
@@ -176,9 +177,10 @@ pub fn reset(s: Session) -> Heard
     requires { ⌜ fitOf s ≡ true ⌝ }
     ensures { λ r. ⌜ heardAt s r ≡ resetOf s ⌝ }
 {
+    let talk = session::fresh_talk(s.board);
     Heard {
         answer: Answer::ResetAsked,
         count: 0,
-        talk: session::fresh_talk(s.board),
+        talk: talk,
     }
 }

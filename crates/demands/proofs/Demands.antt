@@ -10,6 +10,7 @@ use Rattle.demands.proofs.Does.Works.{EraseWorks-holds, ProgramWorks-ho
 use Rattle.demands.proofs.Does.Starts.{Starts-hold}
 use Rattle.demands.proofs.Kept.History.{history-holds, sums-stay}
 use Rattle.demands.proofs.Kept.Named.{only-named-holds}
+use Rattle.demands.proofs.Kept.LastFound.{last-found-holds}
 use Rattle.demands.proofs.Does.ReadBack.{ReadBack-holds}
 
 pub meets-demands : MeetsDemands startOutcome stepOf
@@ -31,4 +32,5 @@ meets-demands =
       history = history-holds;
       sums-stay = sums-stay;
       only-named = only-named-holds;
+      last-found = last-found-holds;
     }

@@ -7,6 +7,7 @@ pub mod Rows
 pub mod Commands
 pub mod Works
 pub mod Covered
+pub mod EveryRow
 pub mod Streams
 pub mod ReadBack
 pub mod Examples

@@ -14,6 +14,7 @@ use Rattle.demands.specs.Does.Commands.{EraseWorks, ProgramWorks}
 use Rattle.demands.specs.Does.ReadBack.{ReadBack}
 use Rattle.demands.specs.Kept.History.{History}
 use Rattle.demands.specs.Kept.Named.{OnlyNamed}
+use Rattle.demands.specs.Kept.LastFound.{LastFound}
 use Rattle.demands.specs.Exact.Desk.{Desk}
 use Rattle.demands.specs.Exact.OneOutcome.{OneOutcome}
 use Rattle.demands.specs.Exact.Impostors.{Impostors}
@@ -59,6 +60,11 @@ history = meets-demands .history
 -- over any history a call changes no byte but those that the ERASE or PROG named that it carries out or continues
 pub only-named : OnlyNamed startOutcome stepOf
 only-named = meets-demands .only-named
+
+-- the number that INFO tells is that of the last CHECK or PROG that searched: the first address of its range whose byte isn't 0xFF, or
+-- none
+pub last-found : LastFound stepOf
+last-found = meets-demands .last-found
 
 -- the flash that a call leaves is that of its single stores, one after another
 pub stores :

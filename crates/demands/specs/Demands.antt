@@ -8,6 +8,7 @@ use Rattle.demands.specs.Does.Starts.{Starts}
 use Rattle.demands.specs.Does.Commands.{EraseWorks, ProgramWorks, Commands}
 use Rattle.demands.specs.Kept.History.{History, SumsStay}
 use Rattle.demands.specs.Kept.Named.{OnlyNamed}
+use Rattle.demands.specs.Kept.LastFound.{LastFound}
 use Rattle.demands.specs.Does.ReadBack.{ReadBack}
 
 -- a loader that meets the demands
@@ -31,3 +32,4 @@ pub record MeetsDemands (start : Start) (step : Step) : Type 0 where
   pub history : History start step
   pub sums-stay : SumsStay step
   pub only-named : OnlyNamed start step
+  pub last-found : LastFound step

@@ -67,6 +67,11 @@ blank n = replicate n erasedByte
 unfoldable pub erased : List ℕ → ℕ → ℕ → List ℕ
 erased flash first count = spliced flash (startOf first) (blank (startOf count))
 
+-- whether a search found nothing
+abbrev pub nothing : Found → Bool
+nothing (Found.At at) = false
+nothing Found.Nothing = true
+
 -- the first of some bytes that is not erased, where the first of them has address at
 unfoldable pub firstIn : ℕ → List ℕ → Found
 firstIn at [] = Found.Nothing
@@ -75,11 +80,6 @@ firstIn at (b ∷ bs) = cond (eqb b erasedByte) (firstIn (at + 1) bs) (Found.At 
 -- the first byte that is not erased among the n bytes from block first on
 unfoldable pub searched : List ℕ → ℕ → ℕ → Found
 searched flash first n = firstIn (startOf first) (range flash (startOf first) n)
-
--- whether a search found nothing
-abbrev pub nothing : Found → Bool
-nothing (Found.At at) = false
-nothing Found.Nothing = true
 
 -- the number that says there is none
 abbrev pub nowhere : ℕ

@@ -1,19 +1,18 @@
 -- The commands that change no flash, and the faults in their order: what each definition says once its tests are told. Assumes nothing.
-use Prim.Native.Nat.{ℕ, _+_, _-_, _*_, _≤_, _<_}
+use Prim.Native.Nat.{ℕ, _+_, _-_, _≤_, _<_}
 use mathlib.Core.Bool.{Bool, true, false}
 use mathlib.Core.List.{[]}
 use mathlib.Core.Logic.{inl, inr}
 use mathlib.Core.Path.{_≡_, refl, ap, _∙_}
 use native.Mathlib.Omega.{arith}
-use lib.ListN.{length, getD, drop, length-drop}
+use lib.ListN.{length, getD}
 use borrow.Author.Tests.{eq-eqb, ne-eqb, le-leb, lt-leb}
 use Rattle.flash.specs.Flash.{startOf}
 use Rattle.session.specs.Codes.{address}
 use Rattle.session.specs.Rules.{inApplication}
-use Rattle.session.specs.Session.{appEnd, phaseOf, noDownload, withUnerased, wholeUpload, freshOf}
+use Rattle.session.specs.Session.{freshOf}
 use Rattle.request.specs.declared.Request.{Request}
 use Rattle.answers.specs.declared.Answer.{Answer}
-use Rattle.answers.specs.Answers.{done}
 use Rattle.answers.specs.Moves.{movedTo, faultOf, resetOf}
 use Rattle.jobs.specs.Job.{jobDone}
 use Rattle.command.specs.Download.{progOf, readOf, checkOf, eraseOf, infoOf, prefixFor, binOf, byNumber, pieceOf, faultPlan}

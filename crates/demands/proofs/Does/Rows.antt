@@ -7,7 +7,6 @@ use native.Mathlib.Omega.{arith}
 use lib.ListN.{length, drop}
 use borrow.Author.Tests.{eq-eqb, ne-eqb, lt-ltb, le-ltb}
 use Rattle.session.specs.Session.{phaseOf, withPhase, streamLength}
-use Rattle.session.specs.declared.Session.{Session}
 use Rattle.session.proofs.Laws.{end-in-flash}
 use Rattle.request.specs.declared.Request.{Request}
 use Rattle.stream.specs.Stream.{nextOf}
@@ -24,7 +23,7 @@ use Rattle.demands.specs.Calls.{Call, Site, called}
 use Rattle.demands.specs.Asked.{stateOf, Prepared, Asks, NoRequest}
 use Rattle.demands.specs.Does.Rows.{Unchanged, Moves, Reports, StartsAt, nextBytes, Uploads, Rows}
 use Rattle.demands.proofs.Does.Forms.{asks-served, asks-stalled, asks-brings}
-use Rattle.demands.proofs.Does.Outcomes.{so-answers, so-session, so-flash, so-hands, so-unchanged, so-moves}
+use Rattle.demands.proofs.Does.Outcomes.{so-hands, so-unchanged, so-moves}
 use Rattle.demands.proofs.Does.Downloads.{piece-leaves}
 use Rattle.demands.proofs.Ground.Finished.{withFlash}
 

@@ -1,12 +1,12 @@
 -- A range is all erased, or has a first address whose byte isn't 0xFF, and that is what the search finds. Assumes nothing.
-use Prim.Native.Nat.{ℕ, zero, suc, _+_, _≤_}
+use Prim.Native.Nat.{ℕ, zero, suc, _+_, _-_, _≤_, _<_}
 use mathlib.Core.Bool.{true, false, false≢true}
 use mathlib.Core.Logic.{_⊎_, inl, inr, ⊎-elim}
 use mathlib.Core.Path.{_≡_, sym, ap, subst⁻¹, _∙_}
 use native.Mathlib.Decide.{ℕ-discrete, decLt}
 use native.Mathlib.Omega.{arith}
 use lib.ListN.{length, getD}
-use Rattle.flash.specs.Flash.{startOf, searched, nothing, nowhere, foundNumber}
+use Rattle.flash.specs.Flash.{startOf, searched, nothing, foundNumber}
 use Rattle.flash.specs.declared.Found.{Found}
 use Rattle.flash.proofs.Unerased.{first-found}
 use Rattle.command.specs.Download.{allErased}

@@ -132,7 +132,7 @@ module _ (s : Session) (f setup d reply : List ℕ) (P : Leaves → Type 0) (w :
 
   prog-ways :
       Loads s f setup idle → getD d 0 0 ≡ prog → Finishes (progOf s f (wordAt d 2) (longAt d 4) (length d - 8))
-  unfolding progOf Finishes
+  unfolding progOf Finishes Only
   prog-ways l c =
       let n = length d - 8 in
       let t = noted s f (wordAt d 2) (longAt d 4) in

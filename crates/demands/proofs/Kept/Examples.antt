@@ -1,6 +1,9 @@
--- The premises of what is kept can be met, and what is noted of a PROG is what the next piece may change. Assumes nothing.
+-- The premises of what is kept can be met, what is noted of a PROG is what the next piece may change, and a CHECK over a zero byte is a
+-- call that searches. Assumes nothing.
+use Prim.Native.Nat.{ℕ}
 use mathlib.Core.List.{[], _∷_}
 use mathlib.Core.Path.{_≡_, refl}
+use native.Mathlib.Omega.{arith}
 use lib.ListN.{getD}
 use Rattle.flash.specs.Flash.{blank, range, spliced, firstIn, searched}
 use Rattle.session.specs.Session.{appEnd, streamLength, wholeUpload, freshOf}
@@ -13,7 +16,9 @@ use Rattle.loader.specs.Reply.{answered, entered, polled, pollTime, getstatusOf
 use Rattle.loader.specs.Step.{startable, freshStart, startOutcome, ready, served, stepOf, settled, decidedOf}
 use Rattle.demands.specs.Calls.{begun, Call, Site, called, afterCall, afterCalls}
 use Rattle.demands.specs.Kept.Named.{NamedRange, none, commandNames, tookDnload, mayChange, noteOf, notedAfter}
+use Rattle.demands.specs.Kept.LastFound.{Searches, check}
 use Rattle.demands.proofs.Ground.SmallBoard.{smallFlash, lent}
+use Rattle.demands.proofs.Does.Examples.{onOne, brings, marred, unerased-met}
 
 -- PROG of two bytes in block 1, the first of them with it; a poll; the second byte
 abbrev pub prog : Call
@@ -45,3 +50,11 @@ unfolding before startSite begun blank range spliced firstIn searched appEnd str
     pieceOf dnloadOf answered entered polled pollTime getstatusOf startable freshStart startOutcome ready served stepOf called afterCall
     afterCalls commandNames tookDnload mayChange noteOf notedAfter
 only-named-met = record { noted = refl; may = λ r. refl; erased-yet = refl; written = refl }
+
+-- a search that finds a byte at block 1's first address, and a poll, which searches nothing
+pub searches-met : Searches marred (brings (onOne 3 1 0)) 1 1
+searches-met = check (unerased-met 3 .0) (record { block-is = refl; len-is = refl }) (unerased-met 3 .1)
+
+pub no-search-met : (block len : ℕ) → Searches startSite poll block len → ⊥
+no-search-met block len (Searches.prog n is long named legal few) = omega (arith, is .command)
+no-search-met block len (check is named legal) = omega (arith, is .command)

@@ -13,7 +13,7 @@ use lib.ListN.{length, getD, drop}
 use Rattle.flash.specs.Flash.{startOf, blank, erased}
 use Rattle.flash.proofs.Laws.{spliced-other, length-blank}
 use Rattle.session.specs.Codes.{idle, downloadSync, downloadIdle, manifestSync, error}
-use Rattle.session.specs.Session.{phaseOf, freshOf}
+use Rattle.session.specs.Session.{phaseOf, withUnerased, freshOf}
 use Rattle.session.specs.Rules.{running}
 use Rattle.session.specs.declared.Phase.{Phase}
 use Rattle.session.specs.declared.Session.{Session}
@@ -21,7 +21,6 @@ use Rattle.session.proofs.Tests.{right-of, either}
 use Rattle.numbers.specs.Numbers.{wordAt, longAt}
 use Rattle.request.specs.Request.{requestOf}
 use Rattle.request.specs.declared.Request.{Request}
-use Rattle.answers.specs.declared.Outcome.{Outcome}
 use Rattle.answers.specs.Answers.{Leaves, Told}
 use Rattle.answers.specs.Moves.{movedTo, stallOf, unfitOf, faultOf, resetOf}
 use Rattle.command.specs.Download.{infoOf, binOf}
@@ -214,7 +213,7 @@ covers-after-call noted at c covers =
       unerased = λ _ _ _. stopped _ _ refl;
       programs = λ l p i n.
           covers-as _ _ _ (notes-prog noted s c _ refl (l .is-dnload) (l .here) p)
-          (wrote-covers (progNames d) _ f (startOf (wordAt d 2)) (drop 8 d) (longAt d 4 - length (drop 8 d)) (omega arith)
+          (wrote-covers (progNames d) (withUnerased s _) f (startOf (wordAt d 2)) (drop 8 d) (longAt d 4 - length (drop 8 d)) (omega arith)
           (omega arith));
       pieces = λ l n.
           let runs : running (s .phase) ≡ true = rw (l .here) in

@@ -29,8 +29,7 @@ use Rattle.numbers.specs.Numbers.{wordAt, longAt}
 use Rattle.request.specs.Request.{wLength}
 use Rattle.stream.proofs.Laws.{next-length}
 use Rattle.answers.specs.declared.Answer.{Answer}
-use Rattle.answers.specs.declared.Outcome.{Outcome}
-use Rattle.answers.specs.Answers.{Leaves, answerNumber, outcome, Told, told}
+use Rattle.answers.specs.Answers.{Leaves, outcome, Told, told}
 use Rattle.answers.specs.Moves.{rewound, movedTo, toIdle, toError, stallOf, unfitOf, faultOf, resetOf}
 use Rattle.jobs.specs.Job.{Place}
 use Rattle.command.specs.Ready.{Ready}

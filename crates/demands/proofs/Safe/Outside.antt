@@ -1,15 +1,13 @@
 -- Only the writes and the erase change flash, and each is a splice that lies in the application. Assumes nothing.
 use Prim.Native.Nat.{ℕ, _≤_}
-use mathlib.Core.Bool.{true}
 use mathlib.Core.List.{List}
 use mathlib.Core.Logic.{inl, inr, ⊎-elim}
-use mathlib.Core.Path.{_≡_, refl}
+use mathlib.Core.Path.{refl}
 use native.Mathlib.Omega.{arith}
 use lib.ListN.{length}
 use Rattle.flash.specs.Flash.{startOf, spliced, erased}
 use Rattle.flash.proofs.Laws.{spliced-length, spliced-other, length-blank}
 use Rattle.session.specs.Codes.{downloadIdle}
-use Rattle.session.specs.Rules.{running}
 use Rattle.session.specs.declared.Board.{Board}
 use Rattle.session.specs.declared.Session.{Session}
 use Rattle.session.proofs.Laws.{fit-facts}

@@ -1,5 +1,5 @@
 -- Does: what a DNLOAD with data does in state 2 and in state 5, and the faults in their order.
-use Prim.Native.Nat.{ℕ, _+_, _-_, _*_, _≤_, _<_}
+use Prim.Native.Nat.{ℕ, _+_, _-_, _≤_, _<_}
 use mathlib.Core.List.{List, []}
 use mathlib.Core.Logic.{_⊎_}
 use mathlib.Core.Path.{_≡_}
@@ -9,7 +9,7 @@ use Rattle.session.specs.Session.{appEnd, phaseOf, downOf, upOf, withUnerased, 
 use Rattle.numbers.specs.Numbers.{wordAt, longAt}
 use Rattle.request.specs.declared.Request.{Request}
 use Rattle.demands.specs.Calls.{Step, Call, Site, called}
-use Rattle.demands.specs.Asked.{stateOf, Prepared, Allowed, Asks, NoRequest, FirstUnerased}
+use Rattle.demands.specs.Asked.{stateOf, Asks, FirstUnerased}
 use Rattle.demands.specs.Does.Rows.{goneTo, atPlace, handed, Answers, Hands, Moves}
 
 -- a DNLOAD of n bytes in state 2: its first byte is the command's number

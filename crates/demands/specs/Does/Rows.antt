@@ -3,9 +3,8 @@ use Prim.Native.Nat.{ℕ, _+_, _-_, _≤_, _<_, min}
 use mathlib.Core.List.{List, [], _∷_, _++_}
 use mathlib.Core.Logic.{_⊎_}
 use mathlib.Core.Path.{_≡_}
-use lib.ListN.{length, take, drop, replicate}
-use Rattle.sums.specs.Sum.{mostBlocks, Right}
-use Rattle.session.specs.Session.{boardOf, appEnd, phaseOf, downOf, upOf, streamLength, withPhase, withDown, withUp, freshOf}
+use lib.ListN.{length, take, drop}
+use Rattle.session.specs.Session.{phaseOf, downOf, upOf, streamLength, withPhase, withDown, withUp}
 use Rattle.session.specs.declared.Phase.{Phase}
 use Rattle.session.specs.declared.Download.{Download}
 use Rattle.session.specs.declared.Upload.{Upload}

@@ -1,12 +1,12 @@
 -- The sessions that reading back goes through: that of the start with a range that lies in its application, the prefix on, and each of
 -- the run's states with its download, its upload's place and its sums. Each is fit. Assumes nothing.
 use Prim.Native.Nat.{ℕ, _+_, _≤_}
-use mathlib.Core.Bool.{true, _&&_, _||_}
+use mathlib.Core.Bool.{true, _||_}
 use mathlib.Core.List.{List, _++_}
 use mathlib.Core.Path.{_≡_, refl, ap₂, _∙_}
 use native.Mathlib.Omega.{arith}
 use borrow.Author.Tests.{le-leb}
-use lib.Dec.{eqb, leb}
+use lib.Dec.{eqb}
 use lib.ListN.{length, length-append}
 use Rattle.flash.specs.Flash.{startOf, range, liesIn}
 use Rattle.flash.proofs.Laws.{length-range}
