@@ -90,11 +90,11 @@ fn check(s: Session, flash: &[u8], block: Block, len: u32) -> Heard
     if !session::in_application(s.board, block, len) {
         return answers::faulted(s, Status::ADDRESS);
     }
-    let found = flash::search(flash, block, len);
-    let number = found.number();
+    let met = flash::search(flash, block, len);
+    let number = met.number();
     let mut t = s;
     t.unerased = number;
-    if found.nothing() {
+    if met.nothing() {
         return answers::taken(answers::sync(t));
     }
     answers::faulted(t, Status::CHECK_ERASED)

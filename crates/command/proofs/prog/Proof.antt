@@ -36,8 +36,10 @@ returns-2 c =
 search-requires : tie.Need-search-requires
 search-requires c κs =
     let i = c .before in
+    let s = i .before .before .before in
     let in-app = passed _ _ (i .before .in-application .ensures) (i .if1 .left) in
-    ready-range _ _ (i .before .before .before .pre) _ _ in-app
+    let w = ready-range _ _ (s .pre) (s .args .block .0) (s .args .len) in-app in
+    record { inside = omega (arith, w .inside); addressed = omega (arith, w .addressed) }
 
 number-requires : tie.Need-number-requires
 number-requires c κs = search needs

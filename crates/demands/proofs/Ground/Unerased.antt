@@ -27,7 +27,7 @@ blank-or-first at block (suc len) =
       | no ne ↦
           inr (
             startOf block + len,
-            record { from = omega arith; to = omega arith; unerased = ne; erased-before = λ j low lt. blank-at at block len all j low lt },
+            record { from = omega arith; to = omega arith; unerased = ne; erased-before = λ j low lt. blank-at at block len all j low (omega arith) },
           )
     ])
     (λ first.
