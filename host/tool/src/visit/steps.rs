@@ -313,9 +313,9 @@ mod tests {
     fn a_flash_that_is_not_erased_takes_no_download() {
         let plan = plan(vec![1]);
         let went = download(&mut wire(&plan), &plan, &mut Screen::new(Vec::new(), None));
-        let why = "the application was erased, and still the board found a byte that is not FF \
-                   at address 0x800 (2,048), in block 2; nothing was programmed; erase it once \
-                   more, and if that does not help, the flash is worn out";
+        let why = "after the erase the byte at address 0x800 (2,048), in block 2, is not FF, and \
+                   nothing was programmed; erase once more, and if that does not help, the flash \
+                   may be worn out";
         assert_eq!(went, Err(why.to_string()));
     }
 
@@ -339,8 +339,8 @@ mod tests {
             let (went, plan, flash, text) = not_erased(vec![0x42; 1_500], byte);
             let why = format!(
                 "ended at step 4, download: the application was not erased, and nothing was \
-                 programmed: the board found a byte that is not FF at address {place}; a visit \
-                 without --no-erase erases it first"
+                 programmed: the byte at address {place}, is not FF; a visit without --no-erase \
+                 erases first"
             );
             assert_eq!(went, Err(why));
             assert_eq!(flash, plan.flash);

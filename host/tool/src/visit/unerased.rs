@@ -23,12 +23,12 @@ pub fn explained(wire: &mut Wire, erased: bool, why: String) -> String {
 fn told(place: &str, erased: bool) -> String {
     match erased {
         true => format!(
-            "the application was erased, and still the board found {place}; nothing was \
-             programmed; erase it once more, and if that does not help, the flash is worn out"
+            "after the erase the byte at {place}, is not FF, and nothing was programmed; erase \
+             once more, and if that does not help, the flash may be worn out"
         ),
         false => format!(
-            "the application was not erased, and nothing was programmed: the board found {place}; \
-             a visit without --no-erase erases it first"
+            "the application was not erased, and nothing was programmed: the byte at {place}, is \
+             not FF; a visit without --no-erase erases first"
         ),
     }
 }
@@ -53,7 +53,7 @@ fn place(info: &[u8]) -> Result<String, String> {
     let address = u32::from_le_bytes([a, b, c, d]);
     match address.checked_div(size) {
         Some(block) if address != NONE => Ok(format!(
-            "a byte that is not FF at address 0x{address:X} ({}), in block {block}",
+            "address 0x{address:X} ({}), in block {block}",
             grouped(address)
         )),
         _ => Err("its info bytes tell of none".to_string()),
@@ -80,7 +80,7 @@ mod tests {
 
     #[test]
     fn a_refusal_is_told_by_its_place() {
-        let place = "a byte that is not FF at address 0xBB8 (3,000), in block 2";
+        let place = "address 0xBB8 (3,000), in block 2";
         for data in [&[3, 0, 2, 0, 0, 8, 0, 0][..], &[1, 0, 2, 0, 0, 8, 0, 0, 7]] {
             let mut wire = refused(&[3_000, 3_001, 4_095], data);
             let flash = wire.flash.clone();
@@ -89,7 +89,7 @@ mod tests {
             assert_eq!(wire.status(state::IDLE), Ok(()));
         }
         let mut wire = refused(&[4_095], &[3, 0, 3, 0, 0, 4, 0, 0]);
-        let place = "a byte that is not FF at address 0xFFF (4,095), in block 3";
+        let place = "address 0xFFF (4,095), in block 3";
         assert_eq!(explained_from(&mut wire, true), told(place, true));
     }
 

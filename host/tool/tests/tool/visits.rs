@@ -150,8 +150,8 @@ fn a_visit_without_an_erase_says_where_one_was_needed() {
         let (flash, said) = sent_unerased(&folder, places, 262_144 - 16_384);
         let why = format!(
             "mullirim visit: ended at step 4, download: the application was not erased, and \
-             nothing was programmed: the board found a byte that is not FF at address {told}; \
-             a visit without --no-erase erases it first\n"
+             nothing was programmed: the byte at address {told}, is not FF; a visit without \
+             --no-erase erases first\n"
         );
         assert_eq!((said.code, said.err), (Some(1), why));
         assert!(said.out.contains("3 Erase      left out (--no-erase)\n"));
