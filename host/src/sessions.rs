@@ -306,7 +306,8 @@ mod tests {
         }
     }
 
-    /// Every fourth has none, and as many an address of the application.
+    /// None, 0, the application's first and last byte, and others; a quarter or more
+    /// are addresses of the application.
     #[test]
     fn any_address_may_have_been_found() {
         let mut dice = Dice::new(4);
