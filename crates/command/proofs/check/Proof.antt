@@ -1,13 +1,8 @@
 -- Each answer by the tests that led to it, and the number by what the search found. Assumes nothing.
-use Prim.Native.Nat.{ℕ}
-use mathlib.Core.Path.{ap, _∙_}
-use Rattle.session.specs.Codes.{idle, checkErased}
-use Rattle.session.specs.Session.{noDownload, withUnerased}
-use Rattle.jobs.proofs.Picks.{yes-is, no-is, refused, passed, told}
-use Rattle.answers.specs.Moves.{toSync, takenOf, faultOf}
+use Rattle.jobs.proofs.Picks.{no-is, refused, passed}
 use Rattle.answers.proofs.Laws.{taken-at}
 use Rattle.command.specs.Download.{checkOf}
-use Rattle.command.proofs.Laws.{ready-range, told-erased, told-number}
+use Rattle.command.proofs.Laws.{ready-range, check-erased, check-unerased}
 use borrow.Author.Needs.{needs}
 use Rattle.command.proofs.check.Statement.{statement}
 use Rattle.command.proofs.check.Tie as tie
@@ -39,33 +34,24 @@ taken-requires : tie.Need-taken-requires
 taken-requires c κs = search needs
 
 returns-2 : tie.Need-returns-2
-unfolding checkOf
 returns-2 c =
     let n = c .before .before .before in
     let e = n .before .before in
     let i = e .before in
-    let a = i .before .before .before .args in
-    let found = e .search .ensures in
-    yes-is _ _ _ _ (passed _ _ (i .before .in-application .ensures) (i .if1 .left))
-    (yes-is _ _ _ _ (told _ _ _ (told-erased _ _ _ _ found _ (n .nothing .ensures)) (c .before .before .if2 .taken))
-    (taken-at (a .s) _ _ _ (c .taken .ensures) (c .before .sync .ensures)
-    ∙ ap (λ (m : ℕ). takenOf (toSync (withUnerased (a .s) m) idle noDownload)) (told-number _ _ _ _ found _ (n .before .number .ensures))))
+    check-erased _ _ _ _ (passed _ _ (i .before .in-application .ensures) (i .if1 .left)) _ (e .search .ensures) _ (n .nothing .ensures) _
+    (n .before .number .ensures) (c .before .before .if2 .taken) _
+    (taken-at (i .before .before .before .args .s) _ _ _ (c .taken .ensures) (c .before .sync .ensures))
 
 faulted-requires-2 : tie.Need-faulted-requires-2
 faulted-requires-2 c κs = search needs
 
 returns-3 : tie.Need-returns-3
-unfolding checkOf
 returns-3 c =
     let n = c .before .before in
     let e = n .before .before in
     let i = e .before in
-    let a = i .before .before .before .args in
-    let found = e .search .ensures in
-    yes-is _ _ _ _ (passed _ _ (i .before .in-application .ensures) (i .if1 .left))
-    (no-is _ _ _ _ (told _ _ _ (told-erased _ _ _ _ found _ (n .nothing .ensures)) (c .before .if2 .left))
-    (c .faulted2 .ensures
-    ∙ ap (λ (m : ℕ). faultOf (withUnerased (a .s) m) checkErased) (told-number _ _ _ _ found _ (n .before .number .ensures))))
+    check-unerased _ _ _ _ (passed _ _ (i .before .in-application .ensures) (i .if1 .left)) _ (e .search .ensures) _
+    (n .nothing .ensures) _ (n .before .number .ensures) (c .before .if2 .left) _ (c .faulted2 .ensures)
 
 pub check-spec : {M : Type 1} → statement M
 check-spec =

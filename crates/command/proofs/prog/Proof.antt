@@ -1,13 +1,12 @@
 -- Each refusal by the tests that led to it; the write by all of them passed; the number by what the search found. Assumes nothing.
 use Prim.Native.Nat.{ℕ, _-_}
-use mathlib.Core.Path.{ap, ap₂, _∙_}
+use mathlib.Core.Path.{ap, _∙_}
 use native.Mathlib.Omega.{arith}
-use borrow.Author.Tests.{le-leb, lt-leb}
-use Rattle.session.specs.Codes.{checkErased}
+use borrow.Author.Tests.{lt-leb}
 use Rattle.session.specs.Session.{withUnerased}
 use Rattle.jobs.proofs.Picks.{yes-is, no-is, refused, passed}
-use Rattle.command.proofs.Laws.{ready-range, told-erased, told-number}
-use Rattle.command.specs.Download.{progOf, wroteOf, faultPlan}
+use Rattle.command.proofs.Laws.{ready-range, prog-unerased, prog-erased}
+use Rattle.command.specs.Download.{progOf, wroteOf}
 use borrow.Author.Needs.{needs}
 use Rattle.command.proofs.prog.Statement.{statement}
 use Rattle.command.proofs.prog.Tie as tie
@@ -51,19 +50,12 @@ fault-requires-3 : tie.Need-fault-requires-3
 fault-requires-3 c κs = search needs
 
 returns-3 : tie.Need-returns-3
-unfolding progOf
 returns-3 c =
     let n = c .before .before in
     let e = n .before .before in
-    let t = e .before in
-    let i = t .before in
-    let a = i .before .before .before .args in
-    let found = e .search .ensures in
-    yes-is _ _ _ _ (passed _ _ (i .before .in-application .ensures) (i .if1 .left))
-    (yes-is _ _ _ _ (le-leb _ _ (t .if2 .left))
-    (no-is _ _ _ _ (refused _ _ (told-erased _ _ _ _ found _ (n .nothing .ensures)) (c .before .if3 .taken))
-    (c .fault3 .ensures
-    ∙ ap (λ (m : ℕ). faultPlan (withUnerased (a .s) m) checkErased) (told-number _ _ _ _ found _ (n .before .number .ensures)))))
+    let i = e .before .before in
+    prog-unerased _ _ _ _ (passed _ _ (i .before .in-application .ensures) (i .if1 .left)) _ (e .search .ensures) _ (n .nothing .ensures) _
+    (n .before .number .ensures) _ (e .before .if2 .left) (c .before .if3 .taken) _ (c .fault3 .ensures)
 
 start-requires : tie.Need-start-requires
 start-requires c κs =
@@ -92,21 +84,16 @@ write-requires c κs =
     omega (arith, c .start .ensures, w .addressed, t .if2 .left)
 
 returns-4 : tie.Need-returns-4
-unfolding progOf
 returns-4 c =
     let k = c .before .before in
-    let n = k .before in
-    let e = n .before .before in
-    let t = e .before in
-    let i = t .before in
+    let e = k .before .before .before in
+    let i = e .before .before in
     let a = i .before .before .before .args in
-    let found = e .search .ensures in
-    yes-is _ _ _ _ (passed _ _ (i .before .in-application .ensures) (i .if1 .left))
-    (yes-is _ _ _ _ (le-leb _ _ (t .if2 .left))
-    (yes-is _ _ _ _ (passed _ _ (told-erased _ _ _ _ found _ (n .nothing .ensures)) (k .if3 .left))
+    let m = k .before .before .number in
+    prog-erased _ _ _ _ (passed _ _ (i .before .in-application .ensures) (i .if1 .left)) _ (e .search .ensures) _
+    (k .before .nothing .ensures) _ (m .ensures) _ (e .before .if2 .left) (k .if3 .left) _
     (c .write .ensures
-    ∙ ap₂ (λ (m at : ℕ). wroteOf (withUnerased (a .s) m) at 8 (a .n) (a .len - a .n))
-    (told-number _ _ _ _ found _ (n .before .number .ensures)) (c .before .start .ensures))))
+    ∙ ap (λ (at : ℕ). wroteOf (withUnerased (a .s) (m .result)) at 8 (a .n) (a .len - a .n)) (c .before .start .ensures))
 
 pub prog-spec : {M : Type 1} → statement M
 prog-spec =
