@@ -1,11 +1,11 @@
 -- What a ready session's numbers say of its flash: where the application lies, and that ranges in it lie in flash. Assumes nothing.
 use Prim.Native.Nat.{ℕ, _-_, _≤_}
-use mathlib.Core.Bool.{Bool, true, false, not, cond, _&&_}
+use mathlib.Core.Bool.{Bool, true, false, cond, _&&_}
 use mathlib.Core.List.{List}
 use mathlib.Core.Logic.{inl, ⊎-elim}
 use mathlib.Core.Path.{_≡_, refl, sym, ap, subst, _∙_}
 use native.Mathlib.Omega.{arith}
-use borrow.Author.Tests.{leb-true, le-leb, eqb-false, ne-eqb}
+use borrow.Author.Tests.{leb-true, eqb-false, ne-eqb}
 use lib.Dec.{eqb, leb}
 use lib.ListN.{length, getD, drop, length-drop}
 use Rattle.flash.specs.Flash.{startOf, Within, searched, nothing, foundNumber}
@@ -22,10 +22,9 @@ use Rattle.answers.specs.Moves.{movedTo, toSync, takenOf, faultOf, resetOf}
 use Rattle.jobs.specs.declared.Job.{Job}
 use Rattle.jobs.specs.Job.{Plan, planOf, Place, Can}
 use Rattle.jobs.proofs.Laws.{place-within}
-use Rattle.jobs.proofs.Picks.{yes-is, no-is, told, refused, passed}
 use Rattle.command.specs.Ready.{Ready, Loading}
 use Rattle.request.specs.Commands.{prog, read, check, erase, info, bin, reset}
-use Rattle.command.specs.Download.{allErased, noted, wroteOf, faultPlan, progOf, readOf, checkOf}
+use Rattle.command.specs.Download.{allErased, wroteOf, faultPlan, telling, progOf, readOf, checkOf}
 use Rattle.command.specs.Download.{eraseOf, infoOf, binOf, wellFormed, byNumber, commandOf, closedOf, pieceOf, dnloadOf}
 
 module _ (s : Session) (f : List ℕ) (r : Ready s f) where
@@ -47,46 +46,37 @@ module _ (s : Session) (f : List ℕ) (r : Ready s f) where
   pub ready-range : (block len : ℕ) → inApplication (s .board) block len ≡ true → Within f (startOf block) len
   ready-range block len e = ready-within (startOf block) len (ready-place block len e)
 
--- what a search of a legal range tells, from its answer, whether that was nothing, and its number; and what PROG comes to by it
+-- what a search of a range tells, from its answer, whether that was nothing, and its number
 module _
-    (s : Session) (f : List ℕ) (block len : ℕ) (legal : inApplication (s .board) block len ≡ true) (found : Found)
-    (e : found ≡ searched f block len) (r : Bool) (h : r ≡ nothing found) (m : ℕ) (k : m ≡ foundNumber found) where
+    (f : List ℕ) (block len : ℕ) (found : Found) (e : found ≡ searched f block len) (r : Bool) (h : r ≡ nothing found) (m : ℕ)
+    (k : m ≡ foundNumber found) where
   pub told-erased : r ≡ allErased f block len
   unfolding allErased
   told-erased = h ∙ ap nothing e
 
-  pub told-noted : withUnerased s m ≡ noted s f block len
-  told-noted = ap (withUnerased s) (k ∙ ap foundNumber e)
+  pub told-number : m ≡ foundNumber (searched f block len)
+  told-number = k ∙ ap foundNumber e
 
-  module _ (n : ℕ) (few : n ≤ len) where
-    passed-on : (z : Plan) → z ≡ cond (allErased f block len) (wroteOf (noted s f block len) (startOf block) 8 n (len - n))
-        (faultPlan (noted s f block len) checkErased)
-        → z ≡ progOf s f block len n
-    unfolding progOf
-    passed-on z p = yes-is _ _ _ _ legal (yes-is _ _ _ _ (le-leb _ _ few) p)
+-- a plan that tells a number is that of a session with it
+pub telling-fault : (s : Session) (status m : ℕ) → telling (faultPlan s status) m ≡ faultPlan (withUnerased s m) status
+unfolding faultOf movedTo
+telling-fault s status m = refl
 
-    pub prog-unerased : not r ≡ true → (z : Plan) → z ≡ faultPlan (withUnerased s m) checkErased → z ≡ progOf s f block len n
-    prog-unerased q z p =
-        passed-on z (no-is _ _ _ _ (refused _ _ told-erased q) (p ∙ ap (λ (t : Session). faultPlan t checkErased) told-noted))
+pub telling-wrote :
+    (s : Session) (at skip n left m : ℕ) → telling (wroteOf s at skip n left) m ≡ wroteOf (withUnerased s m) at skip n left
+unfolding wroteOf movedTo
+telling-wrote s at skip n left m = refl
 
-    pub prog-erased :
-        not r ≡ false → (z : Plan) → z ≡ wroteOf (withUnerased s m) (startOf block) 8 n (len - n) → z ≡ progOf s f block len n
-    prog-erased q z p =
-        passed-on z
-        (yes-is _ _ _ _ (passed _ _ told-erased q)
-        (p ∙ ap (λ (t : Session). wroteOf t (startOf block) 8 n (len - n)) told-noted))
+pub telling-sync :
+    (s : Session) (m : ℕ) → telling (planOf (takenOf (toSync s idle noDownload)) Job.Nothing) m
+    ≡ planOf (takenOf (toSync (withUnerased s m) idle noDownload)) Job.Nothing
+unfolding movedTo
+telling-sync s m = refl
 
-  pub check-erased : r ≡ true → (z : Outcome) → z ≡ takenOf (toSync (withUnerased s m) idle noDownload) → z ≡ checkOf s f block len
-  unfolding checkOf
-  check-erased q z p =
-      yes-is _ _ _ _ legal
-      (yes-is _ _ _ _ (told _ _ _ told-erased q) (p ∙ ap (λ (t : Session). takenOf (toSync t idle noDownload)) told-noted))
-
-  pub check-unerased : r ≡ false → (z : Outcome) → z ≡ faultOf (withUnerased s m) checkErased → z ≡ checkOf s f block len
-  unfolding checkOf
-  check-unerased q z p =
-      yes-is _ _ _ _ legal
-      (no-is _ _ _ _ (told _ _ _ told-erased q) (p ∙ ap (λ (t : Session). faultOf t checkErased) told-noted))
+-- a plan for each outcome of a test
+pub plan-cond : (t : Bool) (x y : Outcome) (job : Job) → cond t (planOf x job) (planOf y job) ≡ planOf (cond t x y) job
+plan-cond true x y job = refl
+plan-cond false x y job = refl
 
 -- a well-formed command has its eight bytes
 pub long-enough : (d : List ℕ) → wellFormed d ≡ true → 8 ≤ length d

@@ -12,6 +12,7 @@ use Rattle.session.specs.declared.Session.{Session}
 use Rattle.numbers.specs.Numbers.{wordAt, longAt}
 use Rattle.request.specs.Commands.{prog, read, check, erase, info, bin, reset}
 use Rattle.answers.specs.declared.Outcome.{Outcome}
+use Rattle.answers.specs.Answers.{outcome}
 use Rattle.answers.specs.Moves.{movedTo, toSync, takenOf, faultOf, resetOf}
 use Rattle.jobs.specs.declared.Job.{Job}
 use Rattle.jobs.specs.Job.{Plan, planOf, bytesTo, wipeOf}
@@ -31,6 +32,10 @@ wroteOf s at skip n left = planOf (takenOf (toSync s downloadIdle (downOf (at + 
 -- a fault leaves flash alone, whatever it is
 abbrev pub faultPlan : Session → ℕ → Plan
 faultPlan s status = planOf (faultOf s status) Job.Nothing
+
+-- a plan with another number of what a search found in its session
+abbrev pub telling : Plan → ℕ → Plan
+telling p n = planOf (outcome (p .outcome .answer) (p .outcome .count) (withUnerased (p .outcome .session) n)) (p .job)
 
 -- PROG: starts a download; the n bytes of the request behind its eight are its first data
 unfoldable pub progOf : Session → List ℕ → ℕ → ℕ → ℕ → Plan

@@ -13,13 +13,15 @@ use session::Status;
 use session::Upload;
 ghost use Prim.Native.Nat.{_+_, _≤_, _<_};
 ghost use mathlib.Core.Path.{_≡_};
-ghost use mathlib.Core.Bool.{true};
+ghost use mathlib.Core.Bool.{true, cond};
 ghost use lib.ListN.{length, getD};
 ghost use Rattle.session.specs.Rules.{fitOf};
 ghost use Rattle.answers.specs.Answers.{heardAt};
-ghost use Rattle.jobs.specs.Job.{planned};
+ghost use Rattle.flash.specs.Flash.{startOf, Within, searched, foundNumber};
+ghost use Rattle.jobs.specs.Job.{planned, planOf};
+ghost use Rattle.jobs.specs.declared.Job.{Job};
 ghost use Rattle.command.specs.Ready.{Ready, Loading};
-ghost use Rattle.command.specs.Download.{wroteOf, faultPlan, progOf, readOf, checkOf, eraseOf};
+ghost use Rattle.command.specs.Download.{allErased, noted, wroteOf, faultPlan, telling, progOf, readOf, checkOf, eraseOf};
 ghost use Rattle.command.specs.Download.{infoOf, prefixFor, binOf, wellFormed, byNumber, commandOf, closedOf, pieceOf, dnloadOf};
 
 // The call's data, but for the first `skip` bytes of it, is to go to its places, and the download goes on behind these n bytes.
@@ -50,6 +52,25 @@ fn fault(s: Session, status: u8) -> Decision
     jobs::only(answers::faulted(s, status))
 }
 
+// A decision that holds if all of a range is erased; else the fault. Either way what the search found is told.
+fn if_erased(s: Session, flash: &[u8], block: Block, len: u32, x: Decision) -> Decision
+    requires { ⌜ Within (now flash) (startOf (block .0)) len ⌝ }
+    ensures { λ r. ⌜ planned s r
+        ≡ cond (allErased (now (flash .entry)) (block .0) len) (telling (planned s x) (foundNumber (searched (now (flash .entry)) (block .0) len)))
+        (faultPlan (noted s (now (flash .entry)) (block .0) len) 0x05) ⌝ }
+{
+    let found = flash::search(flash, block, len);
+    let number = found.number();
+    if !found.nothing() {
+        let mut y = fault(s, Status::CHECK_ERASED);
+        y.heard.talk.unerased = number;
+        return y;
+    }
+    let mut y = x;
+    y.heard.talk.unerased = number;
+    y
+}
+
 fn prog(s: Session, flash: &[u8], block: Block, len: u32, n: usize) -> Decision
     requires { ⌜ Ready s (now flash) ⌝ }
     ensures { λ r. ⌜ planned s r ≡ progOf s (now (flash .entry)) (block .0) len n ⌝ }
@@ -60,14 +81,8 @@ fn prog(s: Session, flash: &[u8], block: Block, len: u32, n: usize) -> Decision
     if (len as usize) < n {
         return fault(s, Status::ADDRESS);
     }
-    let found = flash::search(flash, block, len);
-    let number = found.number();
-    let mut t = s;
-    t.unerased = number;
-    if !found.nothing() {
-        return fault(t, Status::CHECK_ERASED);
-    }
-    write(t, block.start(), 8, n as u32, len - n as u32)
+    let x = write(s, block.start(), 8, n as u32, len - n as u32);
+    if_erased(s, flash, block, len, x)
 }
 
 fn read(s: Session, block: Block, len: u32) -> Heard
@@ -83,21 +98,15 @@ fn read(s: Session, block: Block, len: u32) -> Heard
     answers::taken(answers::sync(t))
 }
 
-fn check(s: Session, flash: &[u8], block: Block, len: u32) -> Heard
+fn check(s: Session, flash: &[u8], block: Block, len: u32) -> Decision
     requires { ⌜ Ready s (now flash) ⌝ }
-    ensures { λ r. ⌜ heardAt s r ≡ checkOf s (now (flash .entry)) (block .0) len ⌝ }
+    ensures { λ r. ⌜ planned s r ≡ planOf (checkOf s (now (flash .entry)) (block .0) len) Job.Nothing ⌝ }
 {
     if !session::in_application(s.board, block, len) {
-        return answers::faulted(s, Status::ADDRESS);
+        return fault(s, Status::ADDRESS);
     }
-    let met = flash::search(flash, block, len);
-    let number = met.number();
-    let mut t = s;
-    t.unerased = number;
-    if met.nothing() {
-        return answers::taken(answers::sync(t));
-    }
-    answers::faulted(t, Status::CHECK_ERASED)
+    let x = jobs::only(answers::taken(answers::sync(s)));
+    if_erased(s, flash, block, len, x)
 }
 
 // Blocks are as many bytes as lie before the block of their number.
@@ -167,7 +176,7 @@ fn by_number(s: Session, flash: &[u8], d: &[u8]) -> Decision
     match code {
         Command::PROG => prog(s, flash, block, len, d.len() - 8),
         Command::READ => jobs::only(read(s, block, len)),
-        Command::CHECK => jobs::only(check(s, flash, block, len)),
+        Command::CHECK => check(s, flash, block, len),
         Command::ERASE => erase(s, block, numbers::word(d, 4)),
         Command::INFO => jobs::only(info(s)),
         Command::BIN => jobs::only(bin(s, d[1])),

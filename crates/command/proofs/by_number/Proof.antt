@@ -2,6 +2,8 @@
 use Prim.Native.Nat.{ℕ, _-_}
 use mathlib.Core.Path.{sym, ap, ap₂, _∙_}
 use lib.ListN.{length}
+use Rattle.jobs.specs.declared.Job.{Job}
+use Rattle.jobs.specs.Job.{planOf}
 use Rattle.jobs.proofs.Laws.{only-at}
 use Rattle.command.proofs.Laws.{last-command}
 use Rattle.command.specs.Download.{byNumber, progOf, readOf, checkOf, eraseOf}
@@ -60,9 +62,6 @@ only-requires-4 c κs = search needs
 reset-requires : tie.Need-reset-requires
 reset-requires c κs = search needs
 
-only-requires-5 : tie.Need-only-requires-5
-only-requires-5 c κs = search needs
-
 returns : tie.Need-returns
 unfolding byNumber
 returns c =
@@ -87,12 +86,11 @@ returns-2 c =
 returns-3 : tie.Need-returns-3
 unfolding byNumber
 returns-3 c =
-    let m = c .before .before in
+    let m = c .before in
     let l = m .before in
     let s = l .before .before .before .before .before in
-    let f = s .args .flash .now in
-    let told = c .before .check .ensures ∙ ap₂ (checkOf (s .args .s) f) (l .before .word .ensures .0) (l .long .ensures) in
-    only-at (s .args .s) _ _ _ (c .only2 .ensures) told
+    c .check .ensures
+    ∙ ap₂ (λ (x y : ℕ). planOf (checkOf (s .args .s) (s .args .flash .now) x y) Job.Nothing) (l .before .word .ensures .0) (l .long .ensures)
     ∙ sym (ap (λ (k : ℕ). byNumber k (s .args .s) (s .args .flash .now) (s .args .d .now)) (m .match .keys3))
 
 returns-4 : tie.Need-returns-4
@@ -111,7 +109,7 @@ returns-5 c =
     let m = c .before .before in
     let l = m .before in
     let s = l .before .before .before .before .before in
-    only-at (s .args .s) _ _ _ (c .only3 .ensures) (c .before .info .ensures)
+    only-at (s .args .s) _ _ _ (c .only2 .ensures) (c .before .info .ensures)
     ∙ sym (ap (λ (k : ℕ). byNumber k (s .args .s) (s .args .flash .now) (s .args .d .now)) (m .match .keys5))
 
 returns-6 : tie.Need-returns-6
@@ -120,7 +118,7 @@ returns-6 c =
     let m = c .before .before .before in
     let l = m .before in
     let s = l .before .before .before .before .before in
-    only-at (s .args .s) _ _ _ (c .only4 .ensures) (c .before .bin .ensures)
+    only-at (s .args .s) _ _ _ (c .only3 .ensures) (c .before .bin .ensures)
     ∙ sym (ap (λ (k : ℕ). byNumber k (s .args .s) (s .args .flash .now) (s .args .d .now)) (m .match .keys6))
 
 returns-7 : tie.Need-returns-7
@@ -129,7 +127,7 @@ returns-7 c =
     let l = m .before in
     let s = l .before .before .before .before .before in
     let r = m .match .rest in
-    only-at (s .args .s) _ _ _ (c .only5 .ensures) (c .before .reset .ensures)
+    only-at (s .args .s) _ _ _ (c .only4 .ensures) (c .before .reset .ensures)
     ∙ sym (last-command _ (s .args .s) (s .args .flash .now) (s .args .d .now) (r .0 .0 .0 .0 .0 .1) (r .0 .0 .0 .0 .1) (r .0 .0 .0 .1)
     (r .0 .0 .1) (r .0 .1) (r .1))
 
@@ -145,16 +143,15 @@ by-number-spec =
     read-requires
     only-requires
     check-requires
-    only-requires-2
     word-requires-2
     erase-requires
     info-requires
-    only-requires-3
+    only-requires-2
     shared-slice-read-bin
     bin-requires
-    only-requires-4
+    only-requires-3
     reset-requires
-    only-requires-5
+    only-requires-4
     returns
     returns-2
     returns-3

@@ -1,8 +1,16 @@
--- Each answer by the tests that led to it, and the number by what the search found. Assumes nothing.
-use Rattle.jobs.proofs.Picks.{no-is, refused, passed}
+-- Each answer by the test that led to it. Assumes nothing.
+use mathlib.Core.Path.{refl, ap, _∙_}
+use Rattle.session.specs.Codes.{checkErased}
+use Rattle.flash.specs.Flash.{searched, foundNumber}
+use mathlib.Core.Bool.{cond}
+use Rattle.answers.specs.declared.Outcome.{Outcome}
 use Rattle.answers.proofs.Laws.{taken-at}
-use Rattle.command.specs.Download.{checkOf}
-use Rattle.command.proofs.Laws.{ready-range, check-erased, check-unerased}
+use Rattle.jobs.specs.declared.Job.{Job}
+use Rattle.jobs.specs.Job.{Plan, planOf}
+use Rattle.jobs.proofs.Laws.{only-at}
+use Rattle.jobs.proofs.Picks.{yes-is, no-is, refused, passed}
+use Rattle.command.specs.Download.{allErased, noted, faultPlan, telling, checkOf}
+use Rattle.command.proofs.Laws.{ready-range, telling-sync, plan-cond}
 use borrow.Author.Needs.{needs}
 use Rattle.command.proofs.check.Statement.{statement}
 use Rattle.command.proofs.check.Tie as tie
@@ -10,22 +18,15 @@ use Rattle.command.proofs.check.Tie as tie
 in-application-requires : tie.Need-in-application-requires
 in-application-requires c κs = search needs
 
-faulted-requires : tie.Need-faulted-requires
-faulted-requires c κs = search needs
+fault-requires : tie.Need-fault-requires
+fault-requires c κs = search needs
 
 returns : tie.Need-returns
 unfolding checkOf
-returns c = no-is _ _ _ _ (refused _ _ (c .before .before .in-application .ensures) (c .before .if1 .taken)) (c .faulted .ensures)
-
-search-requires : tie.Need-search-requires
-search-requires c κs =
-    ready-range _ _ (c .before .before .before .pre) _ _ (passed _ _ (c .before .in-application .ensures) (c .if1 .left))
-
-number-requires : tie.Need-number-requires
-number-requires c κs = search needs
-
-nothing-requires : tie.Need-nothing-requires
-nothing-requires c κs = search needs
+returns c =
+    c .fault .ensures
+    ∙ ap (λ (o : Outcome). planOf o Job.Nothing)
+    (no-is _ _ _ _ (refused _ _ (c .before .before .in-application .ensures) (c .before .if1 .taken)) refl)
 
 sync-requires : tie.Need-sync-requires
 sync-requires c κs = search needs
@@ -33,38 +34,41 @@ sync-requires c κs = search needs
 taken-requires : tie.Need-taken-requires
 taken-requires c κs = search needs
 
+only-requires : tie.Need-only-requires
+only-requires c κs = search needs
+
+if-erased-requires : tie.Need-if-erased-requires
+if-erased-requires c κs =
+    let i = c .before .before .before in
+    ready-range _ _ (i .before .before .before .pre) _ _ (passed _ _ (i .before .in-application .ensures) (i .if1 .left))
+
 returns-2 : tie.Need-returns-2
+unfolding checkOf
 returns-2 c =
-    let n = c .before .before .before in
-    let e = n .before .before in
-    let i = e .before in
-    check-erased _ _ _ _ (passed _ _ (i .before .in-application .ensures) (i .if1 .left)) _ (e .search .ensures) _ (n .nothing .ensures) _
-    (n .before .number .ensures) (c .before .before .if2 .taken) _
-    (taken-at (i .before .before .before .args .s) _ _ _ (c .taken .ensures) (c .before .sync .ensures))
-
-faulted-requires-2 : tie.Need-faulted-requires-2
-faulted-requires-2 c κs = search needs
-
-returns-3 : tie.Need-returns-3
-returns-3 c =
-    let n = c .before .before in
-    let e = n .before .before in
-    let i = e .before in
-    check-unerased _ _ _ _ (passed _ _ (i .before .in-application .ensures) (i .if1 .left)) _ (e .search .ensures) _
-    (n .nothing .ensures) _ (n .before .number .ensures) (c .before .if2 .left) _ (c .faulted2 .ensures)
+    let k = c .before .before in
+    let i = k .before .before in
+    let a = i .before .before .before .args in
+    let f = a .flash .now in
+    let n = foundNumber (searched f (a .block .0) (a .len)) in
+    let all = allErased f (a .block .0) (a .len) in
+    let else = faultPlan (noted (a .s) f (a .block .0) (a .len)) checkErased in
+    c .if-erased .ensures
+    ∙ ap (λ (p : Plan). cond all (telling p n) else)
+    (only-at (a .s) _ _ _ (c .before .only .ensures) (taken-at (a .s) _ _ _ (k .taken .ensures) (k .before .sync .ensures)))
+    ∙ ap (λ (p : Plan). cond all p else) (telling-sync (a .s) n)
+    ∙ plan-cond all _ _ Job.Nothing
+    ∙ ap (λ (o : Outcome). planOf o Job.Nothing)
+    (yes-is _ _ _ _ (passed _ _ (i .before .in-application .ensures) (i .if1 .left)) refl)
 
 pub check-spec : {M : Type 1} → statement M
 check-spec =
     tie.close
     (tie.spec
     in-application-requires
-    faulted-requires
+    fault-requires
     returns
-    search-requires
-    number-requires
-    nothing-requires
     sync-requires
     taken-requires
-    returns-2
-    faulted-requires-2
-    returns-3)
+    only-requires
+    if-erased-requires
+    returns-2)

@@ -1,12 +1,15 @@
--- Each refusal by the tests that led to it; the write by all of them passed; the number by what the search found. Assumes nothing.
+-- Each refusal by the tests that led to it; the write, if all is erased, by both of them passed. Assumes nothing.
 use Prim.Native.Nat.{ℕ, _-_}
+use mathlib.Core.Bool.{cond}
 use mathlib.Core.Path.{ap, _∙_}
 use native.Mathlib.Omega.{arith}
-use borrow.Author.Tests.{lt-leb}
-use Rattle.session.specs.Session.{withUnerased}
+use borrow.Author.Tests.{le-leb, lt-leb}
+use Rattle.flash.specs.Flash.{startOf, searched, foundNumber}
+use Rattle.session.specs.Codes.{checkErased}
+use Rattle.jobs.specs.Job.{Plan}
 use Rattle.jobs.proofs.Picks.{yes-is, no-is, refused, passed}
-use Rattle.command.proofs.Laws.{ready-range, prog-unerased, prog-erased}
-use Rattle.command.specs.Download.{progOf, wroteOf}
+use Rattle.command.specs.Download.{allErased, noted, wroteOf, faultPlan, telling, progOf}
+use Rattle.command.proofs.Laws.{ready-range, telling-wrote}
 use borrow.Author.Needs.{needs}
 use Rattle.command.proofs.prog.Statement.{statement}
 use Rattle.command.proofs.prog.Tie as tie
@@ -32,34 +35,9 @@ returns-2 c =
     yes-is _ _ _ _ (passed _ _ (i .before .in-application .ensures) (i .if1 .left))
     (no-is _ _ _ _ (lt-leb _ _ (c .before .if2 .taken)) (c .fault2 .ensures))
 
-search-requires : tie.Need-search-requires
-search-requires c κs =
-    let i = c .before in
-    let s = i .before .before .before in
-    let in-app = passed _ _ (i .before .in-application .ensures) (i .if1 .left) in
-    let w = ready-range _ _ (s .pre) (s .args .block .0) (s .args .len) in-app in
-    record { inside = omega (arith, w .inside); addressed = omega (arith, w .addressed) }
-
-number-requires : tie.Need-number-requires
-number-requires c κs = search needs
-
-nothing-requires : tie.Need-nothing-requires
-nothing-requires c κs = search needs
-
-fault-requires-3 : tie.Need-fault-requires-3
-fault-requires-3 c κs = search needs
-
-returns-3 : tie.Need-returns-3
-returns-3 c =
-    let n = c .before .before in
-    let e = n .before .before in
-    let i = e .before .before in
-    prog-unerased _ _ _ _ (passed _ _ (i .before .in-application .ensures) (i .if1 .left)) _ (e .search .ensures) _ (n .nothing .ensures) _
-    (n .before .number .ensures) _ (e .before .if2 .left) (c .before .if3 .taken) _ (c .fault3 .ensures)
-
 start-requires : tie.Need-start-requires
 start-requires c κs =
-    let i = c .before .before .before .before .before in
+    let i = c .before in
     let s = i .before .before .before in
     let in-app = passed _ _ (i .before .in-application .ensures) (i .if1 .left) in
     let w = ready-range _ _ (s .pre) (s .args .block .0) (s .args .len) in-app in
@@ -76,24 +54,35 @@ sub-write c = search needs
 
 write-requires : tie.Need-write-requires
 write-requires c κs =
-    let t = c .before .before .before .before .before in
+    let t = c .before in
     let i = t .before in
     let s = i .before .before .before in
     let in-app = passed _ _ (i .before .in-application .ensures) (i .if1 .left) in
     let w = ready-range _ _ (s .pre) (s .args .block .0) (s .args .len) in-app in
     omega (arith, c .start .ensures, w .addressed, t .if2 .left)
 
-returns-4 : tie.Need-returns-4
-returns-4 c =
+if-erased-requires : tie.Need-if-erased-requires
+if-erased-requires c κs =
+    let i = c .before .before .before in
+    ready-range _ _ (i .before .before .before .pre) _ _ (passed _ _ (i .before .in-application .ensures) (i .if1 .left))
+
+returns-3 : tie.Need-returns-3
+unfolding progOf
+returns-3 c =
     let k = c .before .before in
-    let e = k .before .before .before in
-    let i = e .before .before in
+    let t = k .before in
+    let i = t .before in
     let a = i .before .before .before .args in
-    let m = k .before .before .number in
-    prog-erased _ _ _ _ (passed _ _ (i .before .in-application .ensures) (i .if1 .left)) _ (e .search .ensures) _
-    (k .before .nothing .ensures) _ (m .ensures) _ (e .before .if2 .left) (k .if3 .left) _
-    (c .write .ensures
-    ∙ ap (λ (at : ℕ). wroteOf (withUnerased (a .s) (m .result)) at 8 (a .n) (a .len - a .n)) (c .before .start .ensures))
+    let f = a .flash .now in
+    let n = foundNumber (searched f (a .block .0) (a .len)) in
+    let all = allErased f (a .block .0) (a .len) in
+    let else = faultPlan (noted (a .s) f (a .block .0) (a .len)) checkErased in
+    yes-is _ _ _ _ (passed _ _ (i .before .in-application .ensures) (i .if1 .left))
+    (yes-is _ _ _ _ (le-leb _ _ (t .if2 .left))
+    (c .if-erased .ensures
+    ∙ ap (λ (p : Plan). cond all (telling p n) else)
+    (c .before .write .ensures ∙ ap (λ (at : ℕ). wroteOf (a .s) at 8 (a .n) (a .len - a .n)) (k .start .ensures))
+    ∙ ap (λ (p : Plan). cond all p else) (telling-wrote (a .s) (startOf (a .block .0)) 8 (a .n) (a .len - a .n) n)))
 
 pub prog-spec : {M : Type 1} → statement M
 prog-spec =
@@ -104,14 +93,10 @@ prog-spec =
     returns
     fault-requires-2
     returns-2
-    search-requires
-    number-requires
-    nothing-requires
-    fault-requires-3
-    returns-3
     start-requires
     cast-write
     cast-write-2
     sub-write
     write-requires
-    returns-4)
+    if-erased-requires
+    returns-3)
