@@ -1,6 +1,7 @@
-//! A second loader, written from the scope paper alone. It is kept as plain as
-//! can be (no table, no state machine tricks) because its only use is to
-//! disagree with the first one wherever one of the two misreads the paper.
+//! A second loader, written from the two papers alone: that of the scope, and that
+//! of further requests as far as they have landed. It is kept as plain as can be
+//! (no table, no state machine tricks) because its only use is to disagree with
+//! the first one wherever one of the two misreads a paper.
 
 mod whole;
 

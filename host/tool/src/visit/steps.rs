@@ -144,6 +144,9 @@ fn download<W: Write>(wire: &mut Wire, plan: &Plan, screen: &mut Screen<W>) -> R
     ));
     arrived(wire, plan)?;
     screen.under("the flash holds the image; its boot area is untouched");
+    if let Some(lines) = left_behind(wire, plan) {
+        lines.iter().for_each(|line| screen.under(line));
+    }
     Ok(())
 }
 
@@ -177,6 +180,22 @@ fn arrived(wire: &Wire, plan: &Plan) -> Result<(), String> {
         return Err("the boot area is not as it was".to_string());
     }
     Ok(())
+}
+
+/// What is told of bytes behind the image that are not erased; only a visit without
+/// an erase leaves any. The sums of `mullirim sums --image` know of none.
+fn left_behind(wire: &Wire, plan: &Plan) -> Option<[String; 2]> {
+    let rest = &wire.application()[plan.image.len()..];
+    let first = rest.iter().position(|byte| *byte != ERASED)?;
+    let count = rest.iter().filter(|byte| **byte != ERASED).count();
+    let address = wire.flash.len() - rest.len() + first;
+    Some([
+        format!(
+            "left behind the image, not FF: {}, from 0x{address:X} on",
+            counted(count, "byte")
+        ),
+        "block sums and whole sum count that, those of sums --image do not".to_string(),
+    ])
 }
 
 fn leave<W: Write>(wire: &Wire, path: &Path, screen: &mut Screen<W>) -> Result<(), String> {
@@ -313,9 +332,9 @@ mod tests {
     fn a_flash_that_is_not_erased_takes_no_download() {
         let plan = plan(vec![1]);
         let went = download(&mut wire(&plan), &plan, &mut Screen::new(Vec::new(), None));
-        let why = "after the erase the byte at address 0x800 (2,048), in block 2, is not FF, and \
-                   nothing was programmed; erase once more, and if that does not help, the flash \
-                   may be worn out";
+        let why = "the erase was done, and what stood there is gone, but the byte at address \
+                   0x800 (2,048), in block 2, is not FF; nothing was programmed; erase once \
+                   more, and if that does not help, the flash may be worn out";
         assert_eq!(went, Err(why.to_string()));
     }
 
@@ -338,7 +357,7 @@ mod tests {
         ] {
             let (went, plan, flash, text) = not_erased(vec![0x42; 1_500], byte);
             let why = format!(
-                "ended at step 4, download: the application was not erased, and nothing was \
+                "ended at step 4, download: the application was not all erased, and nothing was \
                  programmed: the byte at address {place}, is not FF; a visit without --no-erase \
                  erases first"
             );
@@ -348,15 +367,46 @@ mod tests {
         }
     }
 
-    /// What lies behind the image is neither searched nor changed.
+    /// What lies behind the image is neither searched nor changed, but told.
     #[test]
     fn without_an_erase_an_image_goes_where_it_is_erased() {
-        for byte in [2_047, 3_548, 4_095] {
-            let (went, plan, flash, _) = not_erased(vec![0x42; 1_500], byte);
+        for (byte, address) in [
+            (2_047, None),
+            (3_548, Some("0xDDC")),
+            (4_095, Some("0xFFF")),
+        ] {
+            let (went, plan, flash, text) = not_erased(vec![0x42; 1_500], byte);
             let before = &plan.flash;
             let left = [&before[..2_048], &plan.image, &before[3_548..]].concat();
             assert_eq!((went, flash == left), (Ok(()), true));
+            let told = address.map(|address| format!("not FF: 1 byte, from {address} on"));
+            let line = text
+                .lines()
+                .find(|line| line.contains("left behind the image"));
+            assert_eq!(line.is_some(), told.is_some(), "{text}");
+            assert!(
+                line.unwrap_or_default()
+                    .ends_with(&told.unwrap_or_default()),
+                "{text}"
+            );
         }
+    }
+
+    /// All of them, and the first by its address, below the lines of the download.
+    #[test]
+    fn what_an_image_leaves_behind_it_is_counted() {
+        let mut plan = plan(vec![0x42; 1_500]);
+        plan.erase = false;
+        plan.flash[2_048..].fill(0xFF);
+        plan.flash[4_000..4_003].copy_from_slice(&[0, 0xFF, 0xFE]);
+        let lines =
+            "             the flash holds the image; its boot area is untouched\n             \
+                     left behind the image, not FF: 2 bytes, from 0xFA0 on\n             block \
+                     sums and whole sum count that, those of sums --image do not\n5 Sums ";
+        let (went, wire, text) = visited(&plan);
+        assert_eq!(went, Ok(()));
+        assert!(text.contains(lines), "{text}");
+        assert_eq!(wire.session.sums.whole, sum(&wire.flash[2_048..]));
     }
 
     #[test]

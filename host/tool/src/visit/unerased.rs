@@ -14,21 +14,31 @@ pub fn explained(wire: &mut Wire, erased: bool, why: String) -> String {
     if wire.fault() != Some(status::NOT_ERASED) {
         return why;
     }
-    match info(wire).and_then(|info| place(&info)) {
-        Ok(place) => told(&place, erased),
-        Err(more) => format!("{why}; where it is not erased the board doesn't say: {more}"),
+    from_info(info(wire), erased)
+}
+
+/// By the info bytes, or by why there are none.
+fn from_info(info: Result<Vec<u8>, String>, erased: bool) -> String {
+    match info.and_then(|info| place(&info)) {
+        Ok(place) => told(&format!("the byte at {place},"), erased),
+        Err(why) => {
+            let told = told("a byte", erased);
+            format!("{told}; where it is, the board doesn't tell: {why}")
+        }
     }
 }
 
-fn told(place: &str, erased: bool) -> String {
+/// The cause and the next step. The erase that went before took away what stood
+/// there, though it left this byte.
+fn told(byte: &str, erased: bool) -> String {
     match erased {
         true => format!(
-            "after the erase the byte at {place}, is not FF, and nothing was programmed; erase \
-             once more, and if that does not help, the flash may be worn out"
+            "the erase was done, and what stood there is gone, but {byte} is not FF; nothing was \
+             programmed; erase once more, and if that does not help, the flash may be worn out"
         ),
         false => format!(
-            "the application was not erased, and nothing was programmed: the byte at {place}, is \
-             not FF; a visit without --no-erase erases first"
+            "the application was not all erased, and nothing was programmed: {byte} is not FF; a \
+             visit without --no-erase erases first"
         ),
     }
 }
@@ -80,17 +90,41 @@ mod tests {
 
     #[test]
     fn a_refusal_is_told_by_its_place() {
-        let place = "address 0xBB8 (3,000), in block 2";
+        let byte = "the byte at address 0xBB8 (3,000), in block 2,";
         for data in [&[3, 0, 2, 0, 0, 8, 0, 0][..], &[1, 0, 2, 0, 0, 8, 0, 0, 7]] {
             let mut wire = refused(&[3_000, 3_001, 4_095], data);
             let flash = wire.flash.clone();
-            assert_eq!(explained_from(&mut wire, false), told(place, false));
+            assert_eq!(explained_from(&mut wire, false), told(byte, false));
             assert_eq!(wire.flash, flash);
             assert_eq!(wire.status(state::IDLE), Ok(()));
         }
         let mut wire = refused(&[4_095], &[3, 0, 3, 0, 0, 4, 0, 0]);
-        let place = "address 0xFFF (4,095), in block 3";
-        assert_eq!(explained_from(&mut wire, true), told(place, true));
+        let byte = "the byte at address 0xFFF (4,095), in block 3,";
+        assert_eq!(explained_from(&mut wire, true), told(byte, true));
+    }
+
+    /// What it is and what to do comes first also where the place isn't known.
+    #[test]
+    fn a_board_that_does_not_tell_the_place_is_explained_too() {
+        let plain = "the application was not all erased, and nothing was programmed: a byte is \
+                     not FF; a visit without --no-erase erases first; where it is, the board \
+                     doesn't tell: ";
+        let mut wire = refused(&[3_000], &[3, 0, 2, 0, 0, 8, 0, 0]);
+        wire.session.unerased = NONE;
+        let none = format!("{plain}its info bytes tell of none");
+        assert_eq!(explained_from(&mut wire, false), none);
+        let short = format!("{plain}it has 20 info bytes");
+        assert_eq!(from_info(Ok(vec![4; 20]), false), short);
+        let stalled = wire.clear().unwrap_err();
+        let refused = from_info(Err(stalled.clone()), true);
+        let gone =
+            "the erase was done, and what stood there is gone, but a byte is not FF; nothing \
+                    was programmed; erase once more, and if that does not help, the flash may be \
+                    worn out; where it is, the board doesn't tell: CLRSTATUS was answered 1";
+        assert!(
+            refused.starts_with(gone) && refused.ends_with(&stalled),
+            "{refused}"
+        );
     }
 
     /// Another fault, a stall, and no fault at all.

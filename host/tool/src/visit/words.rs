@@ -24,8 +24,8 @@ downloads the corrected image and shows which block sums changed.
   --plain        take the file of --image as it stands: nothing is looked
                  for around the image, and nothing is taken off
   --split A      the block at which the application starts (without it: 16)
-  --no-erase     leave the erase out: where the application is not erased,
-                 the board refuses the download and says at which address
+  --no-erase     leave the erase out: where the image is to go and a byte is
+                 not erased, the board refuses it and says at which address
   --save FILE    write the application as it was read back
   --after FILE   write the flash as the visit left it, done or not
   --help         this text

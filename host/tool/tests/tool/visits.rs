@@ -149,7 +149,7 @@ fn a_visit_without_an_erase_says_where_one_was_needed() {
     ] {
         let (flash, said) = sent_unerased(&folder, places, 262_144 - 16_384);
         let why = format!(
-            "mullirim visit: ended at step 4, download: the application was not erased, and \
+            "mullirim visit: ended at step 4, download: the application was not all erased, and \
              nothing was programmed: the byte at address {told}, is not FF; a visit without \
              --no-erase erases first\n"
         );
@@ -167,8 +167,45 @@ fn a_visit_without_an_erase_is_done_where_none_was_needed() {
         flash[16_384..16_384 + length].fill(0x31);
         assert_eq!((said.code, &*said.err), (Some(0), ""));
         assert_eq!(folder.get("a"), flash);
-        assert!(said
-            .out
-            .ends_with("Done: the image is in place and every sum is right.\n"));
+        assert!(said.out.ends_with(DONE));
     }
+}
+
+const DONE: &str = "Done: the image is in place and every sum is right.\n";
+
+/// The sums that are shown then are right for the flash, and not those that an image
+/// by itself would have; where nothing was left they are, and nothing is told.
+#[test]
+fn a_visit_without_an_erase_tells_what_it_left_behind_the_image() {
+    let folder = Folder::new("left");
+    let split = format!("16:{MOST_BLOCKS}");
+    let foretold = |folder: &Folder| {
+        let sums = folder.done(&["sums", "--image", "i", "--split", &split]);
+        sums.lines().last().unwrap().replace("whole   ", "")
+    };
+    let shown = |said: &Said| {
+        let whole = said.out.lines().find(|line| line.contains("whole   "));
+        whole
+            .unwrap()
+            .split_whitespace()
+            .last()
+            .unwrap()
+            .to_string()
+    };
+    let (flash, said) = sent_unerased(&folder, &[21_384, 21_386, 200_000], 5_000);
+    let left = "             left behind the image, not FF: 3 bytes, from 0x5388 on\n             \
+                block sums and whole sum count that, those of sums --image do not\n";
+    assert!(
+        said.out.contains(left) && said.out.ends_with(DONE),
+        "{}",
+        said.out
+    );
+    assert!(said.out.lines().all(|line| line.len() < 80), "{}", said.out);
+    let sent = [&flash[..16_384], &[0x31; 5_000], &flash[21_384..]].concat();
+    let whole = start(&sent, 16, MOST_BLOCKS as u32, 0, 0).1.whole;
+    assert_eq!(shown(&said), format!("{whole:08X}"));
+    assert_ne!(shown(&said), foretold(&folder));
+    let (_, said) = sent_unerased(&folder, &[16_383], 5_000);
+    assert!(!said.out.contains("left behind the image") && said.out.ends_with(DONE));
+    assert_eq!(shown(&said), foretold(&folder));
 }

@@ -4,10 +4,11 @@
 use crate::commands::{Where, NAMED};
 use crate::eights::Lone;
 use crate::rows::Rows;
-use crate::seen::{bytes, Command, Seen, INFO_BYTES};
+use crate::seen::{bytes, Command, Seen};
 use crate::unfit::reasons;
 use mullirim_host::histories::SMALL;
 use mullirim_host::second::{answer, command, state, status, Session, INFO_STREAM, MOST_BLOCKS};
+use mullirim_host::sessions::INFO_BYTES;
 use std::ops::Range;
 
 const MOST: u32 = MOST_BLOCKS as u32;

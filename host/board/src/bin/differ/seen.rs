@@ -18,9 +18,6 @@ pub struct Form {
 
 pub const STATES: [u8; 6] = [2, 3, 5, 6, 9, 10];
 
-/// As many bytes has the info stream.
-pub const INFO_BYTES: u32 = 24;
-
 const fn form(
     name: &'static str,
     kind: u8,
@@ -52,6 +49,8 @@ pub struct Seen<'a> {
     pub outcome: &'a Outcome,
     /// As the call left it.
     pub flash: &'a [u8],
+    /// The bytes of the reply that were counted.
+    pub reply: &'a [u8],
     /// A DNLOAD of good form with some data in state 2.
     pub command: Option<Command<'a>>,
     /// Where a range was not erased by one byte alone.
@@ -72,12 +71,14 @@ impl<'a> Seen<'a> {
         call: &'a Call,
         outcome: &'a Outcome,
         flash: &'a [u8],
+        reply: &'a [u8],
         right: [&[u32]; 2],
     ) -> Seen<'a> {
         let mut seen = Seen {
             call,
             outcome,
             flash,
+            reply: &reply[..outcome.count as usize],
             command: None,
             lone: None,
             found: None,

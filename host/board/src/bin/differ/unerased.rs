@@ -2,15 +2,15 @@
 //! byte, what else was not erased, what stood there before, what keeps it, and how
 //! INFO tells it.
 
+use crate::commands::Where;
 use crate::rows::Rows;
-use crate::seen::{bytes, Command, Seen, FORMS, INFO_BYTES};
+use crate::seen::{bytes, Command, Seen, FORMS};
 use mullirim_host::second::{answer, command, state, status, Session};
 use mullirim_host::second::{BLOCK, ERASED, INFO_STREAM, NONE};
+use mullirim_host::sessions::{INFO_BEFORE_LAST, INFO_BYTES};
 use std::ops::Range;
 
 const BLOCK_BYTES: u64 = BLOCK as u64;
-/// Where the address stands among the info bytes.
-const TOLD_AT: u32 = 20;
 
 /// A search that found a byte.
 pub struct Found {
@@ -79,9 +79,7 @@ impl Rows {
             self.address_kept(what, stood);
             self.address_told(what, stood);
         }
-        self.add("RESET, neither an address nor none stood", |seen| {
-            seen.answered(answer::RESET_ASKED) && neither(seen.lent())
-        });
+        self.reset("neither an address nor none", neither);
         self.command("an address kept by ERASE of its block", |seen, command| {
             let at = u64::from(seen.lent().unerased);
             let erased = seen.answered(answer::TAKEN) && command.is(command::ERASE);
@@ -113,19 +111,36 @@ impl Rows {
     fn address_kept(&mut self, what: &str, stood: Stood) {
         for (by, keeps) in KEEPS {
             self.add(format!("{what} kept by {by}"), move |seen| {
-                let kept = seen.next().unerased == seen.lent().unerased;
-                kept && stood(seen.lent()) && keeps(seen)
+                kept(seen, stood) && keeps(seen)
             });
         }
-        for (by, keeps) in REFUSALS {
-            self.command(format!("{what} kept by {by}"), move |seen, command| {
-                let kept = seen.next().unerased == seen.lent().unerased;
-                let refused = seen.answered(answer::FAULTED) && stood(seen.lent());
-                kept && refused && keeps(seen, command)
+        for (status, by, refused) in REFUSALS {
+            let name = format!("{what} kept by {status:02X}: {by}");
+            self.command(name, move |seen, command| {
+                kept(seen, stood) && seen.faulted(status) && refused(seen, command)
             });
         }
+        for (number, name) in [(command::PROG, "PROG"), (command::CHECK, "CHECK")] {
+            self.kept_by_refused(number, &format!("{what} kept by"), name, stood);
+        }
+        self.reset(what, stood);
+    }
+
+    /// What refuses a PROG as it does a CHECK.
+    fn kept_by_refused(&mut self, number: u8, kept_by: &str, name: &str, stood: Stood) {
+        for (status, how, refused) in REFUSALS_OF_BOTH {
+            let name = format!("{kept_by} {status:02X}: {name} {how}");
+            self.command(name, move |seen, command| {
+                let faulted = seen.faulted(status) && command.bytes[0] == number;
+                kept(seen, stood) && faulted && refused(seen, command)
+            });
+        }
+    }
+
+    fn reset(&mut self, what: &str, stood: Stood) {
         self.add(format!("RESET, {what} stood"), move |seen| {
-            seen.answered(answer::RESET_ASKED) && stood(seen.lent())
+            let forgotten = seen.next().unerased == NONE;
+            seen.answered(answer::RESET_ASKED) && stood(seen.lent()) && forgotten
         });
     }
 
@@ -134,7 +149,8 @@ impl Rows {
             self.add(format!("INFO tells {what}: {part}"), move |seen| {
                 let (lent, count) = (seen.lent(), seen.outcome.count);
                 let info = seen.upload.is_some() && lent.up_choice == INFO_STREAM;
-                info && stood(lent) && holds(lent.up_place, lent.up_place + count)
+                let part = info && holds(lent.up_place, lent.up_place + count);
+                part && stood(lent) && tells(lent.unerased, lent.up_place, seen.reply)
             });
         }
     }
@@ -167,6 +183,11 @@ fn is_address(lent: &Session) -> bool {
 
 fn neither(lent: &Session) -> bool {
     lent.unerased != NONE && !is_address(lent)
+}
+
+/// What stood there stands there still.
+fn kept(seen: &Seen, stood: Stood) -> bool {
+    stood(seen.lent()) && seen.next().unerased == seen.lent().unerased
 }
 
 const FOUND: [(&str, fn(&Seen, &Found) -> bool); 23] = [
@@ -259,65 +280,65 @@ const NONE_FOUND: [(&str, fn(&Seen, &Range<u64>) -> bool); 8] = [
     }),
 ];
 
-/// A command that faults before it searches, or that never would.
-const REFUSALS: [(&str, fn(&Seen, &Command) -> bool); 17] = [
-    ("0B: CHECK cut short", |_, command| {
-        !command.whole() && command.bytes[0] == command::CHECK
-    }),
-    ("0B: PROG cut short", |_, command| {
-        !command.whole() && command.bytes[0] == command::PROG
-    }),
-    ("0B: no such command", |_, command| {
+/// A command that faults with this status before it searches, or that never would.
+const REFUSALS: [(u8, &str, Where); 7] = [
+    (status::COMMAND, "no such command", |_, command| {
         command.whole() && !(1..8).contains(&command.bytes[0])
     }),
-    ("0B: bytes after CHECK, erased", |seen, command| {
-        command.is(command::CHECK) && command.extra() > 0 && erased(seen, command) == Some(true)
-    }),
-    ("0B: bytes after CHECK, not erased", |seen, command| {
-        command.is(command::CHECK) && command.extra() > 0 && erased(seen, command) == Some(false)
-    }),
-    ("0B: bytes after another command", |_, command| {
-        let others = (2..8).filter(|number| *number != command::CHECK);
-        command.extra() > 0 && others.into_iter().any(|number| command.is(number))
-    }),
-    ("08: CHECK of nothing", |_, command| {
-        command.is(command::CHECK) && command.range().is_empty()
-    }),
-    ("08: PROG of nothing", |_, command| {
-        command.is(command::PROG) && command.range().is_empty()
-    }),
-    ("08: CHECK before the application", |seen, command| {
-        command.is(command::CHECK) && command.range().start < seen.application().start
-    }),
-    ("08: PROG before the application", |seen, command| {
-        command.is(command::PROG) && command.range().start < seen.application().start
-    }),
     (
-        "08: CHECK past the end, erased up to it",
-        |seen, command| {
-            command.is(command::CHECK) && erased_up_to_the_end(seen, command) == Some(true)
+        status::COMMAND,
+        "bytes after CHECK, erased",
+        |seen, command| command.is(command::CHECK) && erased(seen, command) == Some(true),
+    ),
+    (
+        status::COMMAND,
+        "bytes after CHECK, not erased",
+        |seen, command| command.is(command::CHECK) && erased(seen, command) == Some(false),
+    ),
+    (
+        status::COMMAND,
+        "bytes after another command",
+        |_, command| {
+            let others = (2..8).filter(|number| *number != command::CHECK);
+            command.extra() > 0 && others.into_iter().any(|number| command.is(number))
         },
     ),
-    ("08: CHECK past the end, not erased", |seen, command| {
-        command.is(command::CHECK) && erased_up_to_the_end(seen, command) == Some(false)
+    (
+        status::ADDRESS,
+        "PROG with more data, erased",
+        |seen, command| command.is(command::PROG) && erased(seen, command) == Some(true),
+    ),
+    (
+        status::ADDRESS,
+        "PROG with more data, not erased",
+        |seen, command| command.is(command::PROG) && erased(seen, command) == Some(false),
+    ),
+    (status::ADDRESS, "READ or ERASE", |_, command| {
+        command.is(command::READ) || command.is(command::ERASE)
     }),
-    ("08: PROG past the end, erased up to it", |seen, command| {
-        command.is(command::PROG) && erased_up_to_the_end(seen, command) == Some(true)
+];
+
+/// The same for a PROG as for a CHECK.
+const REFUSALS_OF_BOTH: [(u8, &str, Where); 5] = [
+    (status::COMMAND, "cut short", |_, command| !command.whole()),
+    (status::ADDRESS, "of nothing", |_, command| {
+        command.range().is_empty()
     }),
-    ("08: PROG past the end, not erased", |seen, command| {
-        command.is(command::PROG) && erased_up_to_the_end(seen, command) == Some(false)
-    }),
-    ("08: PROG with more data, erased", |seen, command| {
-        command.is(command::PROG) && erased(seen, command) == Some(true)
-    }),
-    ("08: PROG with more data, not erased", |seen, command| {
-        let more = seen.faulted(status::ADDRESS) && command.is(command::PROG);
-        more && erased(seen, command) == Some(false)
-    }),
-    ("08: READ or ERASE", |seen, command| {
-        let either = command.is(command::READ) || command.is(command::ERASE);
-        seen.faulted(status::ADDRESS) && either
-    }),
+    (
+        status::ADDRESS,
+        "before the application",
+        |seen, command| command.range().start < seen.application().start,
+    ),
+    (
+        status::ADDRESS,
+        "past the end, erased up to it",
+        |seen, command| erased_up_to_the_end(seen, command) == Some(true),
+    ),
+    (
+        status::ADDRESS,
+        "past the end, not erased",
+        |seen, command| erased_up_to_the_end(seen, command) == Some(false),
+    ),
 ];
 
 /// Whether the range that a command names is all erased; nothing where it is empty
@@ -378,25 +399,36 @@ fn taken(seen: &Seen, number: u8) -> bool {
     seen.answered(answer::TAKEN) && command.is_some_and(|command| command.is(number))
 }
 
+/// Whether those of the address's bytes that an answer has, from this place of the
+/// info bytes on, are the address's, low byte first.
+fn tells(address: u32, place: u32, reply: &[u8]) -> bool {
+    let bytes = (place..).zip(reply);
+    let mut last = bytes.filter(|(place, _)| *place >= INFO_BEFORE_LAST);
+    last.all(|(place, byte)| {
+        let rest = address >> (8 * (place - INFO_BEFORE_LAST));
+        u32::from(*byte) == rest % 256
+    })
+}
+
 /// By the first place of the info bytes that an answer has, and the one behind it.
 type Part = fn(u32, u32) -> bool;
 
 const TOLD: [(&str, Part); 7] = [
     ("all at once", |place, end| place == 0 && end == INFO_BYTES),
     ("up to its first byte", |place, end| {
-        place < end && end == TOLD_AT
+        place < end && end == INFO_BEFORE_LAST
     }),
     ("up to the middle of it", |place, end| {
-        place < TOLD_AT && (TOLD_AT + 1..INFO_BYTES).contains(&end)
+        place < INFO_BEFORE_LAST && (INFO_BEFORE_LAST + 1..INFO_BYTES).contains(&end)
     }),
     ("gone on with across its first byte", |place, end| {
-        (1..TOLD_AT).contains(&place) && end == INFO_BYTES
+        (1..INFO_BEFORE_LAST).contains(&place) && end == INFO_BYTES
     }),
     ("from its first byte on", |place, end| {
-        place == TOLD_AT && end == INFO_BYTES
+        place == INFO_BEFORE_LAST && end == INFO_BYTES
     }),
     ("from the middle of it", |place, end| {
-        place > TOLD_AT && place < end
+        place > INFO_BEFORE_LAST && place < end
     }),
     ("nothing from behind it", |place, _| place == INFO_BYTES),
 ];
@@ -438,6 +470,20 @@ mod tests {
         assert_eq!(more(&several, 1_024), Some((2, 0)));
         assert_eq!(more(&several, 1_023), Some((1, 0)));
         assert_eq!(more(&several[2..], 4_096), Some((0, 2)));
+    }
+
+    #[test]
+    fn the_address_is_told_low_byte_first() {
+        let info: Vec<u8> = (0..20).chain([0x0D, 0x0C, 0x0B, 0x0A]).collect();
+        for (place, end) in (0..=24).flat_map(|place| (place..=24).map(move |end| (place, end))) {
+            let part = &info[place as usize..end as usize];
+            assert!(tells(0x0A0B_0C0D, place, part));
+            let told = end > 20 && place < end;
+            assert_eq!(tells(!0x0A0B_0C0D, place, part), !told);
+        }
+        for other in [0x0D0C_0B0A, 0x0C0D, 0x0A0B_0C0C, 0x0B0B_0C0D, NONE] {
+            assert!(!tells(other, 0, &info));
+        }
     }
 
     /// A loader that names another byte than the first meets no row.

@@ -1,8 +1,9 @@
 //! Why a request is unfit: the paper's reasons and the session's rules, each by
 //! itself, so that a run can tell whether each was ever the only one.
 
-use crate::seen::{bytes, Seen, INFO_BYTES, STATES};
+use crate::seen::{bytes, Seen, STATES};
 use mullirim_host::second::{Session, MOST_BLOCKS, TRANSFER};
+use mullirim_host::sessions::INFO_BYTES;
 
 /// Every reason. `A not below B` leaves no application to judge a range by.
 pub const REASONS: [&str; 29] = [

@@ -1,7 +1,8 @@
 //! The rows of uploads, for each of the three streams.
 
 use crate::rows::Rows;
-use crate::seen::{Seen, INFO_BYTES};
+use crate::seen::Seen;
+use mullirim_host::sessions::INFO_BYTES;
 
 impl Rows {
     pub fn uploads(&mut self) {
