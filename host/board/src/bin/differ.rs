@@ -1,7 +1,8 @@
 //! Compares the proved loader with the second one, call by call: answer, count,
 //! every field of the session, every byte of flash and reply. Where all sums of
-//! blocks are right, both are held to the sum over the application's bytes too.
-//! The first difference ends the run.
+//! blocks are right, both are held to the sum over the application's bytes too,
+//! and where a range was searched, to what a walk over its bytes finds. The first
+//! difference ends the run.
 
 #[path = "differ/commands.rs"]
 mod commands;

@@ -5,7 +5,10 @@ use crate::tally::Tally;
 use mullirim_board::{request, start, Session};
 use mullirim_host::comparison::{same, same_bytes, Same};
 use mullirim_host::histories::{Call, History, Start, REPLY_ROOM};
-use mullirim_host::second::{self, answer, command, state, status, Outcome, BLOCK, NONE};
+use mullirim_host::second::{self, answer, Outcome, BLOCK};
+
+/// What stands for an address where there is none, as the paper writes it.
+const NONE: u32 = 0xFFFF_FFFF;
 
 /// What lies before the flash that is lent.
 const BEFORE: [u8; 7] = [0x5A; 7];
@@ -111,15 +114,15 @@ fn same_session(left: &Session, awaited: &second::Session) -> Same {
 
 /// What a search of the range that a CHECK or PROG names would find, by its data and
 /// the flash before it alone; nothing where no search is asked for. It is a third
-/// reading of the paper: the two loaders might be wrong alike.
+/// reading of the paper, in the paper's numbers: the two loaders might be wrong alike.
 fn walked(call: &Call, flash: &[u8]) -> Option<u32> {
-    let [command::PROG | command::CHECK, _, low, high, length @ ..] = &call.data[..] else {
+    let [1 | 3, _, low, high, length @ ..] = &call.data[..] else {
         return None;
     };
     let first = usize::from(*low) * 1_024 + usize::from(*high) * 262_144;
     let length = u32::from_le_bytes(*length.first_chunk()?) as usize;
     let range = flash.get(first..first + length)?;
-    let command = call.setup.starts_with(&[0x21, 1]) && call.session.state == state::IDLE;
+    let command = call.setup.starts_with(&[0x21, 1]) && call.session.state == 2;
     let place = || range.iter().position(|byte| *byte != 0xFF);
     command.then(|| place().map_or(NONE, |place| (first + place) as u32))
 }
@@ -128,8 +131,7 @@ fn walked(call: &Call, flash: &[u8]) -> Option<u32> {
 /// answered by what there was to find, and has left that.
 fn same_search(outcome: &Outcome, found: Option<u32>) -> Same {
     let taken = outcome.answer == answer::TAKEN;
-    let status = outcome.session.status;
-    let refused = outcome.answer == answer::FAULTED && status == status::NOT_ERASED;
+    let refused = outcome.answer == answer::FAULTED && outcome.session.status == 0x05;
     match found {
         None if refused => Err("nothing was to be searched, and the fault is 05".to_string()),
         Some(found) if taken || refused => {
@@ -197,9 +199,9 @@ mod tests {
         assert_eq!(found(&CHECK[..7]), None);
         assert_eq!(found(&[]), None);
         let mut other = call(&CHECK);
-        other.session.state = state::DOWN_IDLE;
+        other.session.state = 5;
         assert_eq!(walked(&other, &flash), None);
-        other.session.state = state::IDLE;
+        other.session.state = 2;
         assert_eq!(walked(&other, &flash), Some(1_024));
         other.setup[1] = 2;
         assert_eq!(walked(&other, &flash), None);

@@ -114,6 +114,11 @@ impl Rows {
                 kept(seen, stood) && keeps(seen)
             });
         }
+        self.kept_by_refusals(what, stood);
+        self.reset(what, stood);
+    }
+
+    fn kept_by_refusals(&mut self, what: &str, stood: Stood) {
         for (status, by, refused) in REFUSALS {
             let name = format!("{what} kept by {status:02X}: {by}");
             self.command(name, move |seen, command| {
@@ -121,19 +126,13 @@ impl Rows {
             });
         }
         for (number, name) in [(command::PROG, "PROG"), (command::CHECK, "CHECK")] {
-            self.kept_by_refused(number, &format!("{what} kept by"), name, stood);
-        }
-        self.reset(what, stood);
-    }
-
-    /// What refuses a PROG as it does a CHECK.
-    fn kept_by_refused(&mut self, number: u8, kept_by: &str, name: &str, stood: Stood) {
-        for (status, how, refused) in REFUSALS_OF_BOTH {
-            let name = format!("{kept_by} {status:02X}: {name} {how}");
-            self.command(name, move |seen, command| {
-                let faulted = seen.faulted(status) && command.bytes[0] == number;
-                kept(seen, stood) && faulted && refused(seen, command)
-            });
+            for (status, how, refused) in REFUSALS_OF_BOTH {
+                let name = format!("{what} kept by {status:02X}: {name} {how}");
+                self.command(name, move |seen, command| {
+                    let faulted = seen.faulted(status) && command.bytes[0] == number;
+                    kept(seen, stood) && faulted && refused(seen, command)
+                });
+            }
         }
     }
 
