@@ -62,13 +62,13 @@ fn if_erased(s: Session, flash: &[u8], block: Block, len: u32, x: Decision) -> D
     let found = flash::search(flash, block, len);
     let number = found.number();
     if !found.nothing() {
-        let mut y = fault(s, Status::CHECK_ERASED);
-        y.heard.talk.unerased = number;
-        return y;
+        let mut refused = fault(s, Status::CHECK_ERASED);
+        refused.heard.talk.unerased = number;
+        return refused;
     }
-    let mut y = x;
-    y.heard.talk.unerased = number;
-    y
+    let mut taken = x;
+    taken.heard.talk.unerased = number;
+    taken
 }
 
 fn prog(s: Session, flash: &[u8], block: Block, len: u32, n: usize) -> Decision

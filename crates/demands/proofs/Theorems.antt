@@ -61,9 +61,9 @@ history = meets-demands .history
 pub only-named : OnlyNamed startOutcome stepOf
 only-named = meets-demands .only-named
 
--- the number that INFO tells is that of the last CHECK or PROG that searched: the first address of its range whose byte isn't 0xFF, or
--- none
-pub last-found : LastFound stepOf
+-- after any calls the session's number is that of the last CHECK or PROG that searched: the first address of its range whose byte isn't
+-- 0xFF, or none
+pub last-found : LastFound startOutcome stepOf
 last-found = meets-demands .last-found
 
 -- the flash that a call leaves is that of its single stores, one after another

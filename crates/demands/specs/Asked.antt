@@ -1,6 +1,5 @@
--- What a call asks for and finds, in the paper's words: which calls are prepared, the form table, the states that allow a request, and
--- where a range isn't erased.
-use Prim.Native.Nat.{ℕ, _+_, _≤_, _<_}
+-- What a call asks for, in the paper's words: which calls are prepared, the form table, and the states that allow a request.
+use Prim.Native.Nat.{ℕ, _≤_, _<_}
 use mathlib.Core.List.{List}
 use mathlib.Core.Logic.{_⊎_}
 use mathlib.Core.Path.{_≡_}
@@ -65,10 +64,3 @@ pub record Asks (at : Site) (c : Call) (r : Request) (n : ℕ) : Type 0 where
 -- a call that is no request in form which the state allows
 abbrev pub NoRequest : Site → Call → Type 0
 NoRequest at c = (r : Request) (n : ℕ) → Form (c .setup) n r → Allowed r n (stateOf at) → ⊥
-
--- the first address of a range whose byte isn't 0xFF
-pub record FirstUnerased (at : Site) (block len k : ℕ) : Type 0 where
-  pub from : startOf block ≤ k
-  pub to : k < startOf block + len
-  pub unerased : getD (at .flash) k 0 ≡ 0xFF → ⊥
-  pub erased-before : (j : ℕ) → startOf block ≤ j → j < k → getD (at .flash) j 0 ≡ 0xFF

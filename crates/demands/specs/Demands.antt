@@ -32,4 +32,4 @@ pub record MeetsDemands (start : Start) (step : Step) : Type 0 where
   pub history : History start step
   pub sums-stay : SumsStay step
   pub only-named : OnlyNamed start step
-  pub last-found : LastFound step
+  pub last-found : LastFound start step

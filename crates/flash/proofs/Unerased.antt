@@ -2,6 +2,7 @@
 -- is erased.
 -- Assumes nothing.
 use Prim.Native.Nat.{ℕ, zero, suc, _+_, _-_, _^_, _≤_, _<_}
+use mathlib.Core.Bool.{false≢true}
 use mathlib.Core.Path.{_≡_, refl, sym, ap, ap₂, subst, _∙_}
 use mathlib.Core.List.{List, [], _∷_, _++_}
 use native.Mathlib.Decide.{ℕ-discrete}
@@ -11,7 +12,8 @@ use lib.ListN.{length, take, drop, getD, replicate-append-replicate}
 use lib.Seq.{drop-cons, getD-take, getD-drop, drop-length, drop-drop, take-add}
 use Rattle.numbers.specs.Numbers.{longAt, bytes4}
 use Rattle.numbers.proofs.Laws.{long-taken, long-fits}
-use Rattle.flash.specs.Flash.{firstIn, searched, range, blank, startOf, eightAt, Passed}
+use Rattle.flash.specs.Flash.{firstIn, searched, nothing, nowhere, foundNumber, range, blank, startOf, Within, eightAt, Passed}
+use Rattle.flash.specs.declared.Addr.{Addr}
 use Rattle.flash.specs.declared.Found.{Found}
 use Rattle.flash.proofs.Laws.{length-range}
 use Rattle.flash.proofs.Writing.{blank-byte}
@@ -165,6 +167,30 @@ all-erased at (x ∷ xs) e =
           let no : ⊥ = omega arith in
           absurd no)
     ]
+
+-- something found: its address is one of the range's
+first-below : (at : ℕ) (xs : List ℕ) (k : Addr) → firstIn at xs ≡ Found.At k → k .0 < at + length xs
+unfolding firstIn
+first-below at [] k e = absurd (false≢true (sym (ap nothing e)))
+first-below at (x ∷ xs) k e =
+    elim (ℕ-discrete x 255) [
+      | yes q ↦
+          (let past : firstIn at (x ∷ xs) ≡ firstIn (at + 1) xs = rw (eq-eqb x 255 q) in
+          let rest = first-below (at + 1) xs k (sym past ∙ e) in
+          omega (arith, rest))
+      | no q ↦
+          (let found : firstIn at (x ∷ xs) ≡ Found.At (record { 0 = at }) = rw (ne-eqb x 255 q) in
+          let here : at ≡ k .0 = ap foundNumber (sym found ∙ e) in
+          omega (arith, here))
+    ]
+
+-- so its number isn't the one that says there is none
+pub found-below :
+    (f : List ℕ) (first n : ℕ) → Within f (startOf first) n → (k : Addr) → searched f first n ≡ Found.At k → k .0 < nowhere
+unfolding searched
+found-below f first n w k e =
+    let below = first-below (startOf first) (range f (startOf first) n) k e in
+    omega (arith, below, length-range f (startOf first) n (w .inside), w .addressed)
 
 blank-nothing : (at n : ℕ) → firstIn at (blank n) ≡ Found.Nothing
 unfolding firstIn blank

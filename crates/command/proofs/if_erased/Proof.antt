@@ -1,6 +1,6 @@
 -- By what the search found: the fault or the decision, with its number put in. Assumes nothing.
 use Prim.Native.Nat.{ℕ}
-use mathlib.Core.Path.{ap, ap₂, _∙_}
+use mathlib.Core.Path.{ap, _∙_}
 use Rattle.session.specs.Codes.{checkErased}
 use Rattle.session.specs.Session.{withUnerased}
 use Rattle.jobs.specs.Job.{Plan, planned}

@@ -18,9 +18,10 @@ use Rattle.jobs.specs.Job.{jobDone}
 use Rattle.command.specs.Download.{progOf, readOf, checkOf, eraseOf, infoOf, prefixFor, binOf, byNumber, pieceOf, faultPlan}
 use Rattle.loader.specs.Step.{stepOf, settled}
 use Rattle.demands.specs.Calls.{Call, Site}
-use Rattle.demands.specs.Asked.{Asks, FirstUnerased}
+use Rattle.demands.specs.Asked.{Asks}
+use Rattle.demands.specs.Commanded.{FirstUnerased, Commanded, Named, Counted, Legal, Blank, NoCommand}
 use Rattle.demands.specs.Does.Rows.{Hands, Moves}
-use Rattle.demands.specs.Does.Commands.{Commanded, Named, Counted, Legal, Blank, Chooses, Finds, NoCommand, Commands}
+use Rattle.demands.specs.Does.Commands.{Chooses, Finds, Commands}
 use Rattle.demands.proofs.Ground.Bytes.{bytes-erased}
 use Rattle.demands.proofs.Ground.Unerased.{none-found, first-searched, first-unerased}
 use Rattle.demands.proofs.Does.Forms.{asks-brings}

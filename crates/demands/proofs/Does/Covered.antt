@@ -12,7 +12,7 @@ use Rattle.numbers.specs.Numbers.{wordAt, longAt}
 use Rattle.request.specs.declared.Request.{Request}
 use Rattle.demands.specs.Calls.{Call, Site}
 use Rattle.demands.specs.Asked.{stateOf, Asks}
-use Rattle.demands.specs.Does.Commands.{Commanded, Named, Counted, Legal, short, unknown, extra}
+use Rattle.demands.specs.Commanded.{Commanded, Named, Counted, Legal, short, unknown, extra}
 use Rattle.demands.specs.Does.Covered.{DnloadRow, DnloadRows}
 use Rattle.demands.proofs.Ground.Unerased.{blank-or-first}
 

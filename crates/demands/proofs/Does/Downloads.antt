@@ -6,7 +6,7 @@ use mathlib.Core.Path.{_≡_, refl, _∙_}
 use native.Mathlib.Omega.{arith}
 use lib.Dec.{eqb, leb}
 use lib.ListN.{length}
-use borrow.Author.Tests.{ne-eqb, le-leb, lt-leb, lt-ltb}
+use borrow.Author.Tests.{ne-eqb, le-leb, lt-leb}
 use Rattle.flash.specs.Flash.{startOf}
 use Rattle.session.specs.Codes.{vendor}
 use Rattle.session.specs.Session.{appEnd}
@@ -20,8 +20,8 @@ use Rattle.command.specs.Download.{wellFormed, byNumber, commandOf, pieceOf, dn
 use Rattle.loader.specs.Step.{served, settled, stepOf}
 use Rattle.demands.specs.Calls.{Call, Site, called}
 use Rattle.demands.specs.Asked.{Prepared, Asks}
-use Rattle.demands.specs.Does.Commands.{Commanded, Legal, NoCommand}
-use Rattle.demands.specs.Does.Commands.NoCommand.{short, unknown, extra}
+use Rattle.demands.specs.Commanded.{Commanded, Legal, NoCommand}
+use Rattle.demands.specs.Commanded.NoCommand.{short, unknown, extra}
 use Rattle.demands.proofs.Ground.Finished.{finished}
 use Rattle.demands.proofs.Does.Forms.{asks-served, asks-brings}
 
@@ -36,7 +36,7 @@ pub legal-in :
 legal-in at block len near k =
     facts-inside (at .session .board) block len near (record { some = k .some; from = k .from; to = k .to })
 
-in-legal : (at : Site) (block len : ℕ) → inApplication (at .session .board) block len ≡ true → Legal at block len
+pub in-legal : (at : Site) (block len : ℕ) → inApplication (at .session .board) block len ≡ true → Legal at block len
 in-legal at block len e =
     let i = inside-facts (at .session .board) block len e in
     record { some = i .some; from = i .from; to = i .to }

@@ -14,12 +14,12 @@ use Rattle.request.specs.declared.Request.{Request}
 use Rattle.loader.specs.Step.{ready}
 use Rattle.demands.specs.Calls.{Step, heard, Call, Site, called}
 use Rattle.demands.specs.Asked.{stateOf, Prepared, Form, Allowed, Asks, NoRequest}
+use Rattle.demands.specs.Commanded.{Searches, prog, check}
 use Rattle.demands.specs.Asked.Form.{getstatus, clrstatus, getstate, abort, query}
 use Rattle.demands.specs.Safe.Refused.{Refused, Unfit, UnfitExactly}
 use Rattle.demands.specs.Does.Rows.{StartsAt, Hands, Rows}
 use Rattle.demands.specs.Does.Commands.{EraseDone, EraseWorks, BytesDone, ProgramWorks, Finds, Commands}
 use Rattle.demands.specs.Does.Covered.{DnloadRow}
-use Rattle.demands.specs.Kept.LastFound.{Searches, prog, check}
 use Rattle.demands.proofs.Ground.Prepared.{prepared-ready, ready-prepared}
 use Rattle.demands.proofs.Does.Forms.{Covered-holds}
 use Rattle.demands.proofs.Does.Covered.{DnloadRows-hold}

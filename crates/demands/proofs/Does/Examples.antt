@@ -3,22 +3,22 @@ use Prim.Native.Nat.{ℕ, _+_, _*_, _≤_}
 use mathlib.Core.Bool.{true}
 use mathlib.Core.List.{List, [], _∷_, _++_}
 use mathlib.Core.Logic.{inl, inr}
-use mathlib.Core.Path.{_≡_, refl, sym, _∙_}
+use mathlib.Core.Path.{_≡_, refl, sym, ap, _∙_}
 use native.Mathlib.Omega.{arith}
 use lib.ListN.{length, getD}
 use Rattle.flash.specs.Flash.{startOf, spliced}
-use Rattle.flash.proofs.Laws.{spliced-length}
+use Rattle.flash.proofs.Laws.{spliced-length, spliced-other}
 use Rattle.session.specs.Session.{phaseOf, downOf, upOf, appEnd, streamLength, withPhase, withDown, withUp, freshOf}
 use Rattle.session.specs.Rules.{fitOf}
 use Rattle.session.specs.declared.Session.{Session}
 use Rattle.request.specs.Request.{setupOf, dataAsked}
 use Rattle.request.specs.declared.Request.{Request}
 use Rattle.demands.specs.Calls.{Call, Site}
-use Rattle.demands.specs.Asked.{Prepared, Asks, NoRequest, FirstUnerased, Says, Form}
+use Rattle.demands.specs.Asked.{Prepared, Asks, NoRequest, Says, Form}
+use Rattle.demands.specs.Commanded.{FirstUnerased, Commanded, Named, Counted, Legal, Blank, NoCommand}
 use Rattle.demands.specs.Does.Rows.{StartsAt}
 use Rattle.demands.specs.Asked.Form.{dnload, upload, getstatus, clrstatus, getstate, abort, query}
-use Rattle.demands.specs.Does.Commands.{Commanded, Named, Counted, Legal, Blank, NoCommand}
-use Rattle.demands.specs.Does.Commands.NoCommand.{short, unknown, extra}
+use Rattle.demands.specs.Commanded.NoCommand.{short, unknown, extra}
 use Rattle.demands.proofs.Ground.Prepared.{prepared-from}
 use Rattle.demands.proofs.Ground.SmallBoard.{smallFlash, small-long, smallSession, lent, roomy}
 use Rattle.demands.proofs.Ground.Bytes.{blank-byte, spliced-byte}
@@ -183,24 +183,27 @@ pub piece-data-met : Asks (small 5 0 1024 1) (brings (7 ∷ 7 ∷ [])) Request.D
 unfolding fitOf streamLength freshOf appEnd dataAsked setupOf
 piece-data-met = met 5 0 1024 1 0 refl Request.Dnload 2 _ _ refl refl (dnload (so _ _ _ _ _) (omega arith))
 
--- a flash with a zero byte at block 1, for PROG and CHECK
+-- a flash with zeros behind block 1's first byte, and a range of three bytes there, for PROG and CHECK: the first zero is found
 abbrev pub marred : Site
-marred = record { session = small 2 0 0 0 .session; flash = spliced smallFlash 1024 (0 ∷ []) }
+marred = record { session = small 2 0 0 0 .session; flash = spliced smallFlash 1025 (0 ∷ 0 ∷ []) }
 
-pub unerased-met : (code : ℕ) → Commanded marred (brings (onOne code 1 0)) code 8 × Legal marred 1 1 × FirstUnerased marred 1 1 1024
+pub unerased-met : (code : ℕ) → Commanded marred (brings (onOne code 3 0)) code 8 × Legal marred 1 3 × FirstUnerased marred 1 3 1025
 unfolding freshOf appEnd
 unerased-met code =
-    let fits : 1024 + 1 ≤ length smallFlash = rw small-long (omega arith) in
-    let g = spliced smallFlash 1024 (0 ∷ []) in
-    let zero-byte : getD g (1024 + 0) 0 ≡ 0 = spliced-byte smallFlash 1024 (0 ∷ []) fits 0 (omega arith) in
-    let long = spliced-length smallFlash 1024 (0 ∷ []) fits ∙ small-long in (
-      commanded-over g (onOne code 1 0) code long (omega arith) (omega arith) refl,
+    let fits : 1025 + 2 ≤ length smallFlash = rw small-long (omega arith) in
+    let g = spliced smallFlash 1025 (0 ∷ 0 ∷ []) in
+    let zero-byte : getD g (1025 + 0) 0 ≡ 0 = spliced-byte smallFlash 1025 (0 ∷ 0 ∷ []) fits 0 (omega arith) in
+    let before : getD g 1024 0 ≡ 255 =
+    spliced-other smallFlash 1025 (0 ∷ 0 ∷ []) fits 1024 (inl (omega arith)) ∙ blank-byte (startOf 3) 1024 (omega arith)
+    in
+    let long = spliced-length smallFlash 1025 (0 ∷ 0 ∷ []) fits ∙ small-long in (
+      commanded-over g (onOne code 3 0) code long (omega arith) (omega arith) refl,
       record { some = omega arith; from = omega arith; to = omega arith },
       record {
         from = omega arith;
         to = omega arith;
         unerased = λ e. omega (arith, zero-byte, e);
-        erased-before = λ j low lt. absurd (omega arith);
+        erased-before = λ j low lt. (let same : j ≡ 1024 = omega arith in ap (λ (k : ℕ). getD g k 0) same ∙ before);
       },
     )
 

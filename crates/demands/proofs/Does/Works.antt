@@ -23,9 +23,10 @@ use Rattle.command.specs.Download.{progOf, eraseOf, byNumber, pieceOf}
 use Rattle.loader.specs.Step.{withReply, stepOf, settled}
 use Rattle.demands.specs.Calls.{Call, Site, called}
 use Rattle.demands.specs.Asked.{Prepared, Asks}
+use Rattle.demands.specs.Commanded.{Commanded, Named, Counted, Legal, Blank}
 use Rattle.demands.specs.Does.Rows.{goneTo}
 use Rattle.session.specs.declared.Upload.{Upload}
-use Rattle.demands.specs.Does.Commands.{Commanded, Named, Counted, Legal, Blank, EraseDone, EraseWorks, BytesDone, ProgramWorks}
+use Rattle.demands.specs.Does.Commands.{EraseDone, EraseWorks, BytesDone, ProgramWorks}
 use Rattle.demands.proofs.Ground.Bytes.{spliced-byte, erased-length, erased-byte, erased-other, bytes-erased}
 use Rattle.demands.proofs.Ground.Unerased.{none-found}
 use Rattle.demands.proofs.Does.Forms.{asks-brings}

@@ -27,10 +27,11 @@ use Rattle.loader.specs.Step.{startOutcome, stepOf}
 use Rattle.demands.specs.Calls.{Step, Call, Site, begun, called, afterCall, afterCalls}
 use Rattle.demands.specs.Safe.Fit.{AllowedStart}
 use Rattle.demands.specs.Asked.{stateOf, Asks, Form}
+use Rattle.demands.specs.Commanded.{Commanded, Legal}
 use Rattle.demands.specs.Asked.Form.{dnload, upload, getstate, query}
 use Rattle.demands.specs.Does.Rows.{StartsAt, RowsAt}
 use Rattle.demands.specs.Does.Starts.{Fresh}
-use Rattle.demands.specs.Does.Commands.{Commanded, Legal, EraseAt, EraseDone, ProgramAt, BytesDone}
+use Rattle.demands.specs.Does.Commands.{EraseAt, EraseDone, ProgramAt, BytesDone}
 use Rattle.demands.specs.Kept.History.{Held, History}
 use Rattle.demands.specs.Exact.Impostors.{stallsAll, singleReply, doesNothing, doesNothingAt, saysTaken, allAtFirst, allAtClose}
 use Rattle.demands.specs.Exact.Impostors.{inventsCount, constantSums, constantStart, Led, Impostors}

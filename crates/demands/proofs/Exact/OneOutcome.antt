@@ -1,9 +1,11 @@
 -- No second outcome fits: each promise determines what a call leaves. Assumes nothing.
-use Prim.Native.Nat.{ℕ, zero, suc}
+use Prim.Native.Nat.{ℕ, zero, suc, _<_}
 use mathlib.Core.Path.{_≡_, refl, sym, ap, _∙_}
 use native.Mathlib.Omega.{arith}
-use Rattle.flash.specs.Flash.{foundNumber}
+use Rattle.flash.specs.Flash.{searched, nowhere, foundNumber}
+use Rattle.flash.specs.declared.Addr.{Addr}
 use Rattle.flash.specs.declared.Found.{Found}
+use Rattle.flash.proofs.Unerased.{found-below}
 use Rattle.session.specs.Session.{talkOf}
 use Rattle.answers.specs.declared.Answer.{Answer}
 use Rattle.answers.specs.declared.Heard.{Heard}
@@ -11,8 +13,8 @@ use Rattle.answers.specs.declared.Outcome.{Outcome}
 use Rattle.answers.specs.Answers.{answerNumber, heard}
 use Rattle.jobs.specs.Job.{Plan, decisionOf}
 use Rattle.loader.specs.Step.{startOutcome, stepOf}
-use Rattle.demands.specs.Exact.OneOutcome.{Below, OneOutcome}
-use Rattle.demands.proofs.Ground.Unerased.{one-first}
+use Rattle.demands.specs.Exact.OneOutcome.{OneOutcome}
+use Rattle.demands.proofs.Ground.Unerased.{one-left}
 
 -- the answer of a number
 ofNumber : ℕ → Answer
@@ -37,11 +39,13 @@ one said left other e h = e ∙ sym h
 told : Outcome → Heard
 told o = heard (o .answer) (o .count) (talkOf (o .session))
 
--- an address isn't the number that says there is none
-found-told : (x y : Found) → Below x → Below y → foundNumber x ≡ foundNumber y → x ≡ y
+-- an address that was found isn't the number that says there is none
+found-told :
+    (x y : Found) → ((k : Addr) → x ≡ Found.At k → k .0 < nowhere) → ((k : Addr) → y ≡ Found.At k → k .0 < nowhere)
+    → foundNumber x ≡ foundNumber y → x ≡ y
 found-told (Found.At j) (Found.At k) p q e = ap (λ (n : ℕ). Found.At (record { 0 = n })) e
-found-told (Found.At j) Found.Nothing p q e = absurd (omega (arith, p, e))
-found-told Found.Nothing (Found.At k) p q e = absurd (omega (arith, q, e))
+found-told (Found.At j) Found.Nothing p q e = absurd (omega (arith, p j refl, e))
+found-told Found.Nothing (Found.At k) p q e = absurd (omega (arith, q k refl, e))
 found-told Found.Nothing Found.Nothing p q e = refl
 
 pub OneOutcome-holds : OneOutcome
@@ -57,6 +61,7 @@ OneOutcome-holds =
       sent = λ n m before after other bytes e h. (e .count ∙ sym (h .count), e .reply ∙ sym (h .reply));
       word = λ bytes at r q e h. e .0 ∙ sym (h .0);
       answer = λ x y e. sym (back x) ∙ ap ofNumber e ∙ back y;
-      found = found-told;
-      first-unerased = one-first;
+      found = λ f g block len first n v w.
+          found-told (searched f block len) (searched g first n) (found-below f block len v) (found-below g first n w);
+      search-leaves = one-left;
     }

@@ -11,8 +11,7 @@ use Rattle.flash.specs.declared.Found.{Found}
 use Rattle.flash.proofs.Unerased.{first-found}
 use Rattle.command.specs.Download.{allErased}
 use Rattle.demands.specs.Calls.{Site}
-use Rattle.demands.specs.Asked.{FirstUnerased}
-use Rattle.demands.specs.Does.Commands.{Blank}
+use Rattle.demands.specs.Commanded.{Blank, FirstUnerased, SearchLeaves, first, none}
 use Rattle.demands.proofs.Ground.Bytes.{nothing-is, bytes-erased}
 
 -- by the bytes before the last, and the last
@@ -50,7 +49,7 @@ blank-or-first at block (suc len) =
         ap (λ (k : ℕ). getD (at .flash) k 0) (sym here) ∙ all (j - startOf block) (omega arith)
 
 -- two first addresses are the same: neither lies before the other
-pub one-first : (at : Site) (block len j k : ℕ) → FirstUnerased at block len j → FirstUnerased at block len k → j ≡ k
+one-first : (at : Site) (block len j k : ℕ) → FirstUnerased at block len j → FirstUnerased at block len k → j ≡ k
 one-first at block len j k x y =
     elim (decLt j k) [
       | yes lt ↦ absurd (x .unerased (y .erased-before j (x .from) lt))
@@ -60,6 +59,18 @@ one-first at block len j k x y =
             | no le ↦ omega arith
           ]
     ]
+
+-- none and a first address exclude each other, so a search leaves one number
+blank-no-first : (at : Site) (block len k : ℕ) → Blank at block len → FirstUnerased at block len k → ⊥
+blank-no-first at block len k all x =
+    let here : startOf block + (k - startOf block) ≡ k = omega (arith, x .from) in
+    x .unerased (ap (λ (j : ℕ). getD (at .flash) j 0) (sym here) ∙ all (k - startOf block) (omega (arith, x .from, x .to)))
+
+pub one-left : (at : Site) (block len j k : ℕ) → SearchLeaves at block len j → SearchLeaves at block len k → j ≡ k
+one-left at block len j k (first x) (first y) = one-first at block len j k x y
+one-left at block len j k (first x) (none all e) = absurd (blank-no-first at block len j all x)
+one-left at block len j k (none all e) (first y) = absurd (blank-no-first at block len k all y)
+one-left at block len j k (none all e) (none also h) = e ∙ sym h
 
 -- all erased: the search finds nothing
 pub none-found : (at : Site) (block len : ℕ) → allErased (at .flash) block len ≡ true → searched (at .flash) block len ≡ Found.Nothing

@@ -1,6 +1,6 @@
 -- The ways through a call: what holds of each of them holds of the call. Every demand goes by these cases, so that the tests of the
 -- step are taken apart once. Assumes nothing.
-use Prim.Native.Nat.{ℕ, _-_, _≤_}
+use Prim.Native.Nat.{ℕ, _+_, _-_, _≤_}
 use mathlib.Core.Bool.{true, false, _&&_, _||_, false≢true}
 use mathlib.Core.List.{List}
 use mathlib.Core.Logic.{⊎-elim}
@@ -27,7 +27,7 @@ use Rattle.jobs.specs.Job.{Plan, planOf, jobDone}
 use Rattle.command.specs.Ready.{Ready}
 use Rattle.command.specs.Download.{allErased, noted, progOf, readOf, checkOf, eraseOf, infoOf, binOf, wellFormed, byNumber, commandOf}
 use Rattle.command.specs.Download.{closedOf, pieceOf, dnloadOf}
-use Rattle.command.proofs.Laws.{pick}
+use Rattle.command.proofs.Laws.{pick, long-enough}
 use Rattle.loader.specs.Reply.{getstatusOf, getstateOf, queryOf}
 use Rattle.loader.specs.Upload.{uploadOf}
 use Rattle.loader.specs.Step.{ready, Decided, withReply, served, decidedOf, settled, stepOf}
@@ -65,6 +65,11 @@ module _ (d : List ℕ) (g : wellFormed d ≡ true) where
       → (getD d 0 0 ≡ info → ⊥) → (getD d 0 0 ≡ bin → ⊥) → getD d 0 0 ≡ reset
   last-reset n1 n2 n3 n4 n5 n6 = let k = known-command in omega arith
 
+-- a command that comes to the search: PROG with not more data than its length, or CHECK of eight bytes
+pub data ComesTo (d : List ℕ) : Type 0 where
+  by-prog : getD d 0 0 ≡ prog → 8 ≤ length d → length d ≤ 8 + longAt d 4 → ComesTo d
+  by-check : getD d 0 0 ≡ check → length d ≡ 8 → ComesTo d
+
 -- what P must hold of: each way's outcome, with what was found on the way
 pub record Ways (s : Session) (f setup d reply : List ℕ) (P : Leaves → Type 0) : Type 0 where
   pub unfits : ready s (length f) setup (length d) (length reply) ≡ false → P (leaves (unfitOf s) f reply)
@@ -75,7 +80,7 @@ pub record Ways (s : Session) (f setup d reply : List ℕ) (P : Leaves → Type 
       Ready s f → requestOf setup ≡ Request.Dnload → (status : ℕ) → FaultStatus status
       → P (leaves (faultOf s status) f reply)
   pub unerased :
-      Loads s f setup idle → inApplication (s .board) (wordAt d 2) (longAt d 4) ≡ true
+      Loads s f setup idle → ComesTo d → inApplication (s .board) (wordAt d 2) (longAt d 4) ≡ true
       → allErased f (wordAt d 2) (longAt d 4) ≡ false
       → P (leaves (faultOf (noted s f (wordAt d 2) (longAt d 4)) checkErased) f reply)
   pub programs :
@@ -131,9 +136,9 @@ module _ (s : Session) (f setup d reply : List ℕ) (P : Leaves → Type 0) (w :
   faulty l status why = alone _ (w .faults (l .fit) (l .is-dnload) status why)
 
   prog-ways :
-      Loads s f setup idle → getD d 0 0 ≡ prog → Finishes (progOf s f (wordAt d 2) (longAt d 4) (length d - 8))
+      Loads s f setup idle → getD d 0 0 ≡ prog → 8 ≤ length d → Finishes (progOf s f (wordAt d 2) (longAt d 4) (length d - 8))
   unfolding progOf Finishes Only
-  prog-ways l c =
+  prog-ways l c eight =
       let n = length d - 8 in
       let t = noted s f (wordAt d 2) (longAt d 4) in
       pick Finishes (inApplication (s .board) (wordAt d 2) (longAt d 4)) _ _
@@ -147,7 +152,7 @@ module _ (s : Session) (f setup d reply : List ℕ) (P : Leaves → Type 0) (w :
       subst⁻¹ P (bytes-finished t f d reply (startOf (wordAt d 2)) 8 n (longAt d 4 - n) (sym long))
       (subst (λ (m : ℕ). P (withReply (storedOf t f (startOf (wordAt d 2)) (drop 8 d) (longAt d 4 - m)) reply)) long
       (w .programs l c i (omega (arith, few, long)))))
-      (λ b. alone _ (w .unerased l i b)))
+      (λ b. alone _ (w .unerased l (by-prog c eight (omega (arith, few, eight))) i b)))
       (λ n. faulty l address (out-of-range refl)))
       (λ i. faulty l address (out-of-range refl))
 
@@ -157,13 +162,14 @@ module _ (s : Session) (f setup d reply : List ℕ) (P : Leaves → Type 0) (w :
       pick Only (inApplication (s .board) (wordAt d 2) (longAt d 4)) _ _ (λ i. w .reads l i)
       (λ i. w .faults (l .fit) (l .is-dnload) address (out-of-range refl))
 
-  check-ways : Loads s f setup idle → Only (checkOf s f (wordAt d 2) (longAt d 4))
+  check-ways :
+      Loads s f setup idle → getD d 0 0 ≡ check → length d ≡ 8 → Only (checkOf s f (wordAt d 2) (longAt d 4))
   unfolding checkOf Only
-  check-ways l =
+  check-ways l c eight =
       pick Only (inApplication (s .board) (wordAt d 2) (longAt d 4)) _ _
       (λ i.
       pick Only (allErased f (wordAt d 2) (longAt d 4)) _ _ (λ b. w .checks l)
-      (λ b. w .unerased l i b))
+      (λ b. w .unerased l (by-check c eight) i b))
       (λ i. w .faults (l .fit) (l .is-dnload) address (out-of-range refl))
 
   erase-ways : Loads s f setup idle → getD d 0 0 ≡ erase → Finishes (eraseOf s (wordAt d 2) (wordAt d 4))
@@ -176,11 +182,11 @@ module _ (s : Session) (f setup d reply : List ℕ) (P : Leaves → Type 0) (w :
   carried-ways : Loads s f setup idle → wellFormed d ≡ true → Finishes (byNumber (getD d 0 0) s f d)
   unfolding Only byNumber
   carried-ways l g =
-      pick Finishes (eqb (getD d 0 0) prog) _ _ (λ e. prog-ways l (eqb-true _ _ e))
+      pick Finishes (eqb (getD d 0 0) prog) _ _ (λ e. prog-ways l (eqb-true _ _ e) (long-enough d g))
       (λ n1.
       pick Finishes (eqb (getD d 0 0) read) _ _ (λ _. alone _ (read-ways l))
       (λ n2.
-      pick Finishes (eqb (getD d 0 0) check) _ _ (λ _. alone _ (check-ways l))
+      pick Finishes (eqb (getD d 0 0) check) _ _ (λ e. alone _ (check-ways l (eqb-true _ _ e) (others-eight d g (eqb-false _ _ n1))))
       (λ n3.
       pick Finishes (eqb (getD d 0 0) erase) _ _ (λ e. erase-ways l (eqb-true _ _ e))
       (λ n4.

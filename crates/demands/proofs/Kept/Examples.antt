@@ -15,8 +15,8 @@ use Rattle.command.specs.Download.{allErased, progOf, wellFormed, byNumber, com
 use Rattle.loader.specs.Reply.{answered, entered, polled, pollTime, getstatusOf}
 use Rattle.loader.specs.Step.{startable, freshStart, startOutcome, ready, served, stepOf, settled, decidedOf}
 use Rattle.demands.specs.Calls.{begun, Call, Site, called, afterCall, afterCalls}
+use Rattle.demands.specs.Commanded.{Searches, check}
 use Rattle.demands.specs.Kept.Named.{NamedRange, none, commandNames, tookDnload, mayChange, noteOf, notedAfter}
-use Rattle.demands.specs.Kept.LastFound.{Searches, check}
 use Rattle.demands.proofs.Ground.SmallBoard.{smallFlash, lent}
 use Rattle.demands.proofs.Does.Examples.{onOne, brings, marred, unerased-met}
 
@@ -51,8 +51,8 @@ unfolding before startSite begun blank range spliced firstIn searched appEnd str
     afterCalls commandNames tookDnload mayChange noteOf notedAfter
 only-named-met = record { noted = refl; may = λ r. refl; erased-yet = refl; written = refl }
 
--- a search that finds a byte at block 1's first address, and a poll, which searches nothing
-pub searches-met : Searches marred (brings (onOne 3 1 0)) 1 1
+-- a search that finds the second of three bytes, and a poll, which searches nothing
+pub searches-met : Searches marred (brings (onOne 3 3 0)) 1 3
 searches-met = check (unerased-met 3 .0) (record { block-is = refl; len-is = refl }) (unerased-met 3 .1)
 
 pub no-search-met : (block len : ℕ) → Searches startSite poll block len → ⊥

@@ -93,7 +93,7 @@ board-stays at c =
       unfits = λ _. refl;
       stalls = λ _ _. pick (λ (t : Session). t .board ≡ s .board) (eqb (s .phase .state .0) 10) _ _ (λ _. refl) (λ _. refl);
       faults = λ _ _ _ _. refl;
-      unerased = λ _ _ _. refl;
+      unerased = λ _ _ _ _. refl;
       programs = λ _ _ _ _. refl;
       pieces = λ _ _. refl;
       closes = λ _. refl;
@@ -125,7 +125,7 @@ sums-stay at c right =
       unfits = λ _. right;
       stalls = λ _ _. pick kept (eqb (s .phase .state .0) 10) _ _ (λ _. right) (λ _. right);
       faults = λ _ _ _ _. right;
-      unerased = λ _ _ _. right;
+      unerased = λ _ _ _ _. right;
       programs = λ l _ i n.
           let p = ready-place s f (l .fit) (wordAt d 2) (longAt d 4) i in
           written-right s f (l .fit) right (startOf (wordAt d 2)) (drop 8 d) (record { low = p .low; high = omega arith });

@@ -106,7 +106,7 @@ changes-named noted at c covers k =
       unfits = λ _ _. refl;
       stalls = λ _ _ _. refl;
       faults = λ _ _ _ _ _. refl;
-      unerased = λ _ _ _ _. refl;
+      unerased = λ _ _ _ _ _. refl;
       programs = λ l p i n o.
           let w = ready-range s f (l .fit) (wordAt d 2) (longAt d 4) i in
           let out : NotNamed (progNames d) k =
@@ -210,7 +210,7 @@ covers-after-call noted at c covers =
       unfits = λ _. same _ (untaken noted s c _ (λ (h : _≡_ {A = ℕ} 2 0). omega arith));
       stalls = λ _ _. stopped _ _ (stall-stops s);
       faults = λ _ _ _ _. stopped _ _ refl;
-      unerased = λ _ _ _. stopped _ _ refl;
+      unerased = λ _ _ _ _. stopped _ _ refl;
       programs = λ l p i n.
           covers-as _ _ _ (notes-prog noted s c _ refl (l .is-dnload) (l .here) p)
           (wrote-covers (progNames d) (withUnerased s _) f (startOf (wordAt d 2)) (drop 8 d) (longAt d 4 - length (drop 8 d)) (omega arith)

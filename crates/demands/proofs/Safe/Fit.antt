@@ -287,7 +287,7 @@ tests-stay at c e =
       unfits = λ _. e;
       stalls = λ _ _. stall-fit s e;
       faults = λ _ _ status h. error-fit s status e (fault-status status h);
-      unerased = λ _ _ _. error-fit _ checkErased (noted-fit s _ e) refl;
+      unerased = λ _ _ _ _. error-fit _ checkErased (noted-fit s _ e) refl;
       programs = λ l _ i n.
           let p = ready-place s f (l .fit) (wordAt d 2) (longAt d 4) i in
           wrote-fit _ f (startOf (wordAt d 2)) (drop 8 d) (longAt d 4 - length (drop 8 d)) (noted-fit s _ e)

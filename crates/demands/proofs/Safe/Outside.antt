@@ -60,7 +60,7 @@ outside-holds at c =
       unfits = λ _. same (s .board) f;
       stalls = λ _ _. same (s .board) f;
       faults = λ _ _ _ _. same (s .board) f;
-      unerased = λ _ _ _. same (s .board) f;
+      unerased = λ _ _ _ _. same (s .board) f;
       programs = λ l _ i n.
           let p = ready-place s f (l .fit) (wordAt (c .bytes) 2) (longAt (c .bytes) 4) i in
           splice-untouched s f (l .fit) _ _ (record { low = p .low; high = omega arith });

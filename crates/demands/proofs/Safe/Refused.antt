@@ -7,7 +7,8 @@ use native.Mathlib.Omega.{arith}
 use borrow.Author.Tests.{eq-eqb, ne-eqb}
 use lib.ListN.{length}
 use Rattle.flash.specs.Flash.{startOf}
-use Rattle.session.specs.Codes.{checkErased}
+use Rattle.session.specs.Codes.{idle, checkErased}
+use Rattle.session.specs.Rules.{inApplication}
 use Rattle.session.specs.Session.{appEnd, phaseOf, downOf, upOf, withUnerased, wholeUpload, freshOf}
 use Rattle.session.specs.declared.Phase.{Phase}
 use Rattle.session.specs.declared.Download.{Download}
@@ -25,13 +26,15 @@ use Rattle.loader.specs.Reply.{getstatusOf, getstateOf, queryOf, answered}
 use Rattle.loader.specs.Upload.{uploadOf}
 use Rattle.loader.specs.Step.{ready, served, stepOf, decidedOf, only, Decided, settled}
 use Rattle.demands.specs.Calls.{heard, Call, Site, called}
-use Rattle.demands.specs.Asked.{Prepared, Form, Allowed, NoRequest}
+use Rattle.demands.specs.Asked.{Prepared, Form, Allowed, Asks, NoRequest}
+use Rattle.demands.specs.Commanded.{Legal, Searches, prog, check}
 use Rattle.demands.specs.Safe.Refused.{Settled, InError, Stalled, FaultStatus, unsearched, not-erased, Faulted, AsFresh, AnswerRows}
 use Rattle.demands.specs.Safe.Refused.{Refused, UnfitExactly, StalledExactly}
-use Rattle.demands.proofs.Ground.Ways.{every-way}
+use Rattle.demands.proofs.Ground.Ways.{Loads, ComesTo, by-prog, by-check, every-way}
 use Rattle.demands.proofs.Ground.Prepared.{prepared-ready, ready-prepared}
 use Rattle.demands.proofs.Ground.Unerased.{number-first}
-use Rattle.demands.proofs.Does.Forms.{request-form, no-request, asks-stalled}
+use Rattle.demands.proofs.Does.Forms.{request-form, no-request, asks-stalled, asks-brings}
+use Rattle.demands.proofs.Does.Downloads.{in-legal}
 use Rattle.demands.proofs.Ground.Finished.{storedOf}
 
 -- a session with these groups is settled
@@ -105,18 +108,18 @@ faulted-row at c q status h =
 
 -- what the search found is the first of the range, which lies in flash
 unerased-row :
-    (at : Site) (c : Call) → ((n : ℕ) × Form (c .setup) n Request.Dnload)
+    (at : Site) (c : Call) → ((n : ℕ) × Form (c .setup) n Request.Dnload) → Searches at c (wordAt (c .bytes) 2) (longAt (c .bytes) 4)
     → startOf (wordAt (c .bytes) 2) + longAt (c .bytes) 4 ≤ length (at .flash)
     → allErased (at .flash) (wordAt (c .bytes) 2) (longAt (c .bytes) 4) ≡ false
     → Faulted at c
     (leaves (faultOf (noted (at .session) (at .flash) (wordAt (c .bytes) 2) (longAt (c .bytes) 4)) checkErased) (at .flash) (c .reply))
 unfolding faultOf movedTo
-unerased-row at c q fits n =
+unerased-row at c q searches fits n =
     let first = number-first at (wordAt (c .bytes) 2) (longAt (c .bytes) 4) fits n in
     record {
       when = q;
       quiet = record { count = refl; flash = refl; reply = refl };
-      session = not-erased _ first (errored (at .session) _ checkErased);
+      session = not-erased _ _ _ searches first (errored (at .session) _ checkErased);
     }
 
 -- the rows of a prepared call, and of any other
@@ -125,6 +128,34 @@ in-form at c p q = (
   wLength (c .setup),
   request-form (c .setup) (p .setup-bytes) Request.Dnload q (λ z. subst (λ (r : Request). Allowed r 0 5) z (inr refl)),
 )
+
+-- a command that comes to the search, as the demands have it
+searches-it :
+    (at : Site) (c : Call) → Prepared at c → Loads (at .session) (at .flash) (c .setup) idle → ComesTo (c .bytes)
+    → inApplication (at .session .board) (wordAt (c .bytes) 2) (longAt (c .bytes) 4) ≡ true
+    → Searches at c (wordAt (c .bytes) 2) (longAt (c .bytes) 4)
+searches-it at c p l comes i = go comes
+  where
+    n : ℕ
+    n = in-form at c p (l .is-dnload) .0
+
+    asks : Asks at c Request.Dnload n
+    asks = record { prepared = p; form = in-form at c p (l .is-dnload) .1 }
+
+    brings : length (c .bytes) ≡ n
+    brings = asks-brings at c n asks
+
+    legal : Legal at (wordAt (c .bytes) 2) (longAt (c .bytes) 4)
+    legal = in-legal at (wordAt (c .bytes) 2) (longAt (c .bytes) 4) i
+
+    go : ComesTo (c .bytes) → Searches at c (wordAt (c .bytes) 2) (longAt (c .bytes) 4)
+    go (by-prog code long few) =
+        prog n (record { asks = asks; some = omega (arith, brings, long); idle = l .here; command = code })
+        (omega (arith, brings, long)) (record { block-is = refl; len-is = refl }) legal (omega (arith, brings, few))
+    go (by-check code eight) =
+        let is : n ≡ 8 = sym brings ∙ eight in
+        check (record { asks = subst (Asks at c Request.Dnload) is asks; some = omega arith; idle = l .here; command = code })
+        (record { block-is = refl; len-is = refl }) legal
 
 prepared-rows : (at : Site) (c : Call) → Prepared at c → AnswerRows at c (called stepOf at c)
 unfolding called storedOf infoOf binOf unfitOf stallOf faultOf resetOf getstatusOf getstateOf queryOf answered uploadOf
@@ -147,12 +178,12 @@ prepared-rows at c p =
             faulted = λ _. faulted-row at c (in-form at c p q) status h;
             reset-asked = λ h. absurd (omega arith);
           };
-      unerased = λ l i n.
+      unerased = λ l comes i n.
           let w = ready-range s (at .flash) (l .fit) (wordAt (c .bytes) 2) (longAt (c .bytes) 4) i in
           record {
             stalled = λ h. absurd (omega arith);
             unfit = λ h. absurd (omega arith);
-            faulted = λ _. unerased-row at c (in-form at c p (l .is-dnload)) (w .inside) n;
+            faulted = λ _. unerased-row at c (in-form at c p (l .is-dnload)) (searches-it at c p l comes i) (w .inside) n;
             reset-asked = λ h. absurd (omega arith);
           };
       programs = λ _ _ _ _. taken at c _ refl;
@@ -224,7 +255,7 @@ module _ (at : Site) (c : Call) where
         unfits = λ e _. false≢true (sym e ∙ prepared-ready at c p);
         stalls = λ _ _ h. omega arith;
         faults = λ _ _ _ _ h. omega arith;
-        unerased = λ _ _ _ h. omega arith;
+        unerased = λ _ _ _ _ h. omega arith;
         programs = λ _ _ _ _ h. omega arith;
         pieces = λ _ _ h. omega arith;
         closes = λ _ h. omega arith;

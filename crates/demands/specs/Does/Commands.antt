@@ -5,50 +5,18 @@ use mathlib.Core.Logic.{_⊎_}
 use mathlib.Core.Path.{_≡_}
 use lib.ListN.{length, getD, drop}
 use Rattle.flash.specs.Flash.{startOf}
-use Rattle.session.specs.Session.{appEnd, phaseOf, downOf, upOf, withUnerased, withSums, freshOf}
-use Rattle.numbers.specs.Numbers.{wordAt, longAt}
+use Rattle.session.specs.Session.{phaseOf, downOf, upOf, withUnerased, withSums, freshOf}
 use Rattle.request.specs.declared.Request.{Request}
 use Rattle.demands.specs.Calls.{Step, Call, Site, called}
-use Rattle.demands.specs.Asked.{stateOf, Asks, FirstUnerased}
+use Rattle.demands.specs.Asked.{stateOf, Asks}
+use Rattle.demands.specs.Commanded.{Commanded, Named, Counted, Legal, Blank, FirstUnerased, NoCommand}
 use Rattle.demands.specs.Does.Rows.{goneTo, atPlace, handed, Answers, Hands, Moves}
-
--- a DNLOAD of n bytes in state 2: its first byte is the command's number
-pub record Commanded (at : Site) (c : Call) (code n : ℕ) : Type 0 where
-  pub asks : Asks at c Request.Dnload n
-  pub some : 1 ≤ n
-  pub idle : stateOf at ≡ 2
-  pub command : getD (c .bytes) 0 0 ≡ code
-
--- block in bytes 2-3 and length in bytes 4-7; for ERASE the count of blocks in bytes 4-5, and the length is theirs
-pub record Named (c : Call) (block len : ℕ) : Type 0 where
-  pub block-is : wordAt (c .bytes) 2 ≡ block
-  pub len-is : longAt (c .bytes) 4 ≡ len
-
-pub record Counted (c : Call) (block count : ℕ) : Type 0 where
-  pub block-is : wordAt (c .bytes) 2 ≡ block
-  pub count-is : wordAt (c .bytes) 4 ≡ count
-
--- a range that isn't empty and lies wholly in the application
-pub record Legal (at : Site) (block len : ℕ) : Type 0 where
-  pub some : 1 ≤ len
-  pub from : at .session .board .a .0 ≤ block
-  pub to : startOf block + len ≤ startOf (appEnd (at .session .board))
-
--- all of its bytes are 0xFF
-abbrev pub Blank : Site → ℕ → ℕ → Type 0
-Blank at block len = (i : ℕ) → i < len → getD (at .flash) (startOf block + i) 0 ≡ 0xFF
 
 -- a flash in which n bytes from an address on are new, and all others as before
 pub record Rewritten (before after : List ℕ) (from n : ℕ) (byte : ℕ → ℕ) : Type 0 where
   pub as-long : length after ≡ length before
   pub inside : (i : ℕ) → i < n → getD after (from + i) 0 ≡ byte i
   pub outside : (k : ℕ) → (k < from) ⊎ (from + n ≤ k) → getD after k 0 ≡ getD before k 0
-
--- what is no command: under 8 bytes, an unknown number, or extra bytes after a command other than PROG
-pub data NoCommand (code n : ℕ) : Type 0 where
-  short : n < 8 → NoCommand code n
-  unknown : (code ≡ 0) ⊎ (7 < code) → NoCommand code n
-  extra : 8 < n → (code ≡ 1 → ⊥) → NoCommand code n
 
 module _ (step : Step) where
   -- a legal ERASE is taken, goes to 3 and then to 2, and the blocks hold 0xFF

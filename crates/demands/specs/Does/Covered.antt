@@ -6,8 +6,8 @@ use lib.ListN.{getD}
 use Rattle.flash.specs.Flash.{startOf}
 use Rattle.request.specs.declared.Request.{Request}
 use Rattle.demands.specs.Calls.{Call, Site}
-use Rattle.demands.specs.Asked.{stateOf, Prepared, Allowed, Asks, NoRequest, FirstUnerased}
-use Rattle.demands.specs.Does.Commands.{Commanded, Counted, Blank, Legal, Named, NoCommand}
+use Rattle.demands.specs.Asked.{stateOf, Prepared, Allowed, Asks, NoRequest}
+use Rattle.demands.specs.Commanded.{FirstUnerased, Commanded, Counted, Blank, Legal, Named, NoCommand}
 
 -- the rows that a DNLOAD can fall under, each with what it asks for: those of EraseWorks, ProgramWorks and Commands, and of Rows those
 -- for no bytes

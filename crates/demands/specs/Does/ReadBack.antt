@@ -13,7 +13,7 @@ use Rattle.numbers.specs.Numbers.{bytes2, bytes4}
 use Rattle.request.specs.Commands.{prog, read, erase}
 use Rattle.answers.specs.Answers.{Leaves}
 use Rattle.demands.specs.Calls.{Step, heard, Call, Site, called, afterCall}
-use Rattle.demands.specs.Does.Commands.{Legal}
+use Rattle.demands.specs.Commanded.{Legal}
 
 -- A host ends with something, or makes a call and goes on by the reply bytes that it hears. It is handed no session and no flash, so
 -- what it asks can hang on nothing but what it was told and what it heard.

@@ -2,8 +2,7 @@
 use Prim.Native.Nat.{ℕ, _<_}
 use mathlib.Core.List.{List}
 use mathlib.Core.Path.{_≡_}
-use Rattle.flash.specs.Flash.{nowhere, foundNumber}
-use Rattle.flash.specs.declared.Found.{Found}
+use Rattle.flash.specs.Flash.{startOf, Within, searched, foundNumber}
 use Rattle.session.specs.declared.Talk.{Talk}
 use Rattle.session.specs.declared.Session.{Session}
 use Rattle.session.specs.Session.{withTalk}
@@ -16,12 +15,7 @@ use Rattle.jobs.specs.declared.Decision.{Decision}
 use Rattle.jobs.specs.Job.{planned}
 use Rattle.loader.specs.Step.{startOutcome, stepOf}
 use Rattle.demands.specs.Calls.{Site}
-use Rattle.demands.specs.Asked.{FirstUnerased}
-
--- what a search found lies below the number that says there is none; every address of a flash does
-abbrev pub Below : Found → Type 0
-Below (Found.At at) = at .0 < nowhere
-Below Found.Nothing = Unit
+use Rattle.demands.specs.Commanded.{SearchLeaves}
 
 -- no second outcome fits, on the refused inputs too
 pub record OneOutcome : Type 1 where
@@ -47,8 +41,10 @@ pub record OneOutcome : Type 1 where
       (bytes : List ℕ) (at r q : ℕ) → (r ≡ wordAt bytes at) × (r < 65536) → (q ≡ wordAt bytes at) × (q < 65536) → r ≡ q
   -- and an answer is told by its number
   pub answer : (x y : Answer) → answerNumber x ≡ answerNumber y → x ≡ y
-  -- so is what a search found
-  pub found : (x y : Found) → Below x → Below y → foundNumber x ≡ foundNumber y → x ≡ y
-  -- and a range has one first address whose byte isn't 0xFF, so that the rows leave one number
-  pub first-unerased :
-      (at : Site) (block len j k : ℕ) → FirstUnerased at block len j → FirstUnerased at block len k → j ≡ k
+  -- so is what a search found, whatever the flash and the range
+  pub found :
+      (f g : List ℕ) (block len first n : ℕ) → Within f (startOf block) len → Within g (startOf first) n
+      → foundNumber (searched f block len) ≡ foundNumber (searched g first n) → searched f block len ≡ searched g first n
+  -- and a search leaves one number: a range has one first address whose byte isn't 0xFF, or none
+  pub search-leaves :
+      (at : Site) (block len j k : ℕ) → SearchLeaves at block len j → SearchLeaves at block len k → j ≡ k

@@ -5,11 +5,11 @@ use lib.ListN.{length, getD}
 use Rattle.flash.specs.Flash.{startOf}
 use Rattle.session.specs.Session.{appEnd}
 use Rattle.session.specs.declared.Session.{Session}
-use Rattle.numbers.specs.Numbers.{wordAt, longAt}
 use Rattle.request.specs.declared.Request.{Request}
 use Rattle.answers.specs.Answers.{Leaves}
 use Rattle.demands.specs.Calls.{Step, heard, Call, Site, called}
-use Rattle.demands.specs.Asked.{stateOf, Prepared, Form, Allowed, NoRequest, FirstUnerased}
+use Rattle.demands.specs.Asked.{stateOf, Prepared, Form, Allowed, NoRequest}
+use Rattle.demands.specs.Commanded.{FirstUnerased, Searches}
 
 -- what every refused call leaves: a count of 0, flash and reply untouched
 pub record Quiet (at : Site) (c : Call) (l : Leaves) : Type 0 where
@@ -62,12 +62,12 @@ pub data FaultStatus (n : ℕ) : Type 0 where
   bytes-missing : n ≡ 0x09 → FaultStatus n
   bad-command : n ≡ 0x0B → FaultStatus n
 
--- what a fault leaves of the session: state 10 with its status. Without a search the number of where flash wasn't erased stays; with
--- one the status is 05, and the number the first address of the command's range whose byte isn't 0xFF
+-- what a fault leaves of the session: state 10 with its status. Without a search the number of where flash wasn't erased stays; a PROG or
+-- CHECK that searched its range has the status 05, and the number is the first address of the range whose byte isn't 0xFF
 pub data FaultLeaves (at : Site) (c : Call) (t : Session) : Type 0 where
   unsearched : (status : ℕ) → FaultStatus status → InError (at .session) t status (at .session .unerased) → FaultLeaves at c t
   not-erased :
-      (k : ℕ) → FirstUnerased at (wordAt (c .bytes) 2) (longAt (c .bytes) 4) k → InError (at .session) t 0x05 k
+      (block len k : ℕ) → Searches at c block len → FirstUnerased at block len k → InError (at .session) t 0x05 k
       → FaultLeaves at c t
 
 -- row 3, faulted: a download
