@@ -239,6 +239,10 @@ pub fn altered(dice: &mut Dice, mut session: Session) -> Session {
         8 => session.up_prefix = byte,
         9 => session.up_first = number,
         10 => session.up_len = past(end.wrapping_sub(session.up_first.wrapping_mul(BLOCK))),
+        // Few sessions are amid the info bytes: each is put to its end or just past it.
+        11 if session.up_choice == INFO_STREAM && roll < 9 => {
+            session.up_place = INFO_BYTES + u32::from(roll % 3 > 0);
+        }
         11 => session.up_place = past(stream_end(&session)),
         12 => session.unerased = number,
         13 => session.sums[dice.below(MOST_BLOCKS as u32) as usize] = number,

@@ -5,6 +5,7 @@
 use crate::commands::Where;
 use crate::rows::Rows;
 use crate::seen::{bytes, Command, Seen, FORMS};
+use crate::unfit::reasons;
 use mullirim_host::second::{answer, command, state, status, Session};
 use mullirim_host::second::{BLOCK, ERASED, INFO_STREAM, NONE};
 use mullirim_host::sessions::{INFO_BEFORE_LAST, INFO_BYTES};
@@ -80,6 +81,10 @@ impl Rows {
             self.address_told(what, stood);
         }
         self.reset("neither an address nor none", neither);
+        self.add("unfit: an info upload one byte past its end", |seen| {
+            let past = seen.lent().up_place == INFO_BYTES + 1;
+            past && seen.answered(answer::UNFIT) && reasons(seen) == ["an info upload past its end"]
+        });
         self.command("an address kept by ERASE of its block", |seen, command| {
             let at = u64::from(seen.lent().unerased);
             let erased = seen.answered(answer::TAKEN) && command.is(command::ERASE);
