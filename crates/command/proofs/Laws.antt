@@ -24,7 +24,7 @@ use Rattle.jobs.specs.Job.{Plan, planOf, Place, Can}
 use Rattle.jobs.proofs.Laws.{place-within}
 use Rattle.command.specs.Ready.{Ready, Loading}
 use Rattle.request.specs.Commands.{prog, read, check, erase, info, bin, reset}
-use Rattle.command.specs.Download.{allErased, wroteOf, faultPlan, telling, progOf, readOf, checkOf}
+use Rattle.command.specs.Download.{allErased, noted, wroteOf, faultPlan, telling, ifErased, progOf, readOf, checkOf}
 use Rattle.command.specs.Download.{eraseOf, infoOf, binOf, wellFormed, byNumber, commandOf, closedOf, pieceOf, dnloadOf}
 
 module _ (s : Session) (f : List ℕ) (r : Ready s f) where
@@ -57,26 +57,29 @@ module _
   pub told-number : m ≡ foundNumber (searched f block len)
   told-number = k ∙ ap foundNumber e
 
--- a plan that tells a number is that of a session with it
+-- a plan that tells a number is that of a session with it: a fault, the write of PROG, and what CHECK goes to
 pub telling-fault : (s : Session) (status m : ℕ) → telling (faultPlan s status) m ≡ faultPlan (withUnerased s m) status
 unfolding faultOf movedTo
 telling-fault s status m = refl
 
-pub telling-wrote :
-    (s : Session) (at skip n left m : ℕ) → telling (wroteOf s at skip n left) m ≡ wroteOf (withUnerased s m) at skip n left
-unfolding wroteOf movedTo
-telling-wrote s at skip n left m = refl
+plan-cond : (t : Bool) (x y : Outcome) → cond t (planOf x Job.Nothing) (planOf y Job.Nothing) ≡ planOf (cond t x y) Job.Nothing
+plan-cond true x y = refl
+plan-cond false x y = refl
 
-pub telling-sync :
-    (s : Session) (m : ℕ) → telling (planOf (takenOf (toSync s idle noDownload)) Job.Nothing) m
-    ≡ planOf (takenOf (toSync (withUnerased s m) idle noDownload)) Job.Nothing
-unfolding movedTo
-telling-sync s m = refl
+module _ (s : Session) (f : List ℕ) (block len : ℕ) where
+  pub erased-wrote :
+      (at skip n left : ℕ) → ifErased s f block len (wroteOf s at skip n left)
+      ≡ cond (allErased f block len) (wroteOf (noted s f block len) at skip n left) (faultPlan (noted s f block len) checkErased)
+  unfolding wroteOf movedTo
+  erased-wrote at skip n left = refl
 
--- a plan for each outcome of a test
-pub plan-cond : (t : Bool) (x y : Outcome) (job : Job) → cond t (planOf x job) (planOf y job) ≡ planOf (cond t x y) job
-plan-cond true x y job = refl
-plan-cond false x y job = refl
+  pub erased-sync :
+      ifErased s f block len (planOf (takenOf (toSync s idle noDownload)) Job.Nothing)
+      ≡ planOf
+      (cond (allErased f block len) (takenOf (toSync (noted s f block len) idle noDownload)) (faultOf (noted s f block len) checkErased))
+      Job.Nothing
+  unfolding movedTo
+  erased-sync = plan-cond (allErased f block len) _ _
 
 -- a well-formed command has its eight bytes
 pub long-enough : (d : List ℕ) → wellFormed d ≡ true → 8 ≤ length d

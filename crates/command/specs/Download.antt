@@ -37,6 +37,12 @@ faultPlan s status = planOf (faultOf s status) Job.Nothing
 abbrev pub telling : Plan → ℕ → Plan
 telling p n = planOf (outcome (p .outcome .answer) (p .outcome .count) (withUnerased (p .outcome .session) n)) (p .job)
 
+-- a plan that holds if all of a range is erased; else the fault. Either way the number is that of what the search finds
+abbrev pub ifErased : Session → List ℕ → ℕ → ℕ → Plan → Plan
+ifErased s flash block len p =
+    cond (allErased flash block len) (telling p (foundNumber (searched flash block len)))
+    (faultPlan (noted s flash block len) checkErased)
+
 -- PROG: starts a download; the n bytes of the request behind its eight are its first data
 unfoldable pub progOf : Session → List ℕ → ℕ → ℕ → ℕ → Plan
 progOf s flash block len n =

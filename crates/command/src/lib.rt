@@ -13,15 +13,15 @@ use session::Status;
 use session::Upload;
 ghost use Prim.Native.Nat.{_+_, _≤_, _<_};
 ghost use mathlib.Core.Path.{_≡_};
-ghost use mathlib.Core.Bool.{true, cond};
+ghost use mathlib.Core.Bool.{true};
 ghost use lib.ListN.{length, getD};
+ghost use Rattle.flash.specs.Flash.{startOf, Within};
 ghost use Rattle.session.specs.Rules.{fitOf};
 ghost use Rattle.answers.specs.Answers.{heardAt};
-ghost use Rattle.flash.specs.Flash.{startOf, Within, searched, foundNumber};
 ghost use Rattle.jobs.specs.Job.{planned, planOf};
 ghost use Rattle.jobs.specs.declared.Job.{Job};
 ghost use Rattle.command.specs.Ready.{Ready, Loading};
-ghost use Rattle.command.specs.Download.{allErased, noted, wroteOf, faultPlan, telling, progOf, readOf, checkOf, eraseOf};
+ghost use Rattle.command.specs.Download.{wroteOf, faultPlan, ifErased, progOf, readOf, checkOf, eraseOf};
 ghost use Rattle.command.specs.Download.{infoOf, prefixFor, binOf, wellFormed, byNumber, commandOf, closedOf, pieceOf, dnloadOf};
 
 // The call's data, but for the first `skip` bytes of it, is to go to its places, and the download goes on behind these n bytes.
@@ -55,9 +55,7 @@ fn fault(s: Session, status: u8) -> Decision
 // A decision that holds if all of a range is erased; else the fault. Either way what the search found is told.
 fn if_erased(s: Session, flash: &[u8], block: Block, len: u32, x: Decision) -> Decision
     requires { ⌜ Within (now flash) (startOf (block .0)) len ⌝ }
-    ensures { λ r. ⌜ planned s r
-        ≡ cond (allErased (now (flash .entry)) (block .0) len) (telling (planned s x) (foundNumber (searched (now (flash .entry)) (block .0) len)))
-        (faultPlan (noted s (now (flash .entry)) (block .0) len) 0x05) ⌝ }
+    ensures { λ r. ⌜ planned s r ≡ ifErased s (now (flash .entry)) (block .0) len (planned s x) ⌝ }
 {
     let found = flash::search(flash, block, len);
     let number = found.number();

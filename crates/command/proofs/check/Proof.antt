@@ -1,16 +1,13 @@
 -- Each answer by the test that led to it. Assumes nothing.
 use mathlib.Core.Path.{refl, ap, _∙_}
-use Rattle.session.specs.Codes.{checkErased}
-use Rattle.flash.specs.Flash.{searched, foundNumber}
-use mathlib.Core.Bool.{cond}
 use Rattle.answers.specs.declared.Outcome.{Outcome}
 use Rattle.answers.proofs.Laws.{taken-at}
 use Rattle.jobs.specs.declared.Job.{Job}
-use Rattle.jobs.specs.Job.{Plan, planOf}
+use Rattle.jobs.specs.Job.{planOf}
 use Rattle.jobs.proofs.Laws.{only-at}
 use Rattle.jobs.proofs.Picks.{yes-is, no-is, refused, passed}
-use Rattle.command.specs.Download.{allErased, noted, faultPlan, telling, checkOf}
-use Rattle.command.proofs.Laws.{ready-range, telling-sync, plan-cond}
+use Rattle.command.specs.Download.{ifErased, checkOf}
+use Rattle.command.proofs.Laws.{ready-range, erased-sync}
 use borrow.Author.Needs.{needs}
 use Rattle.command.proofs.check.Statement.{statement}
 use Rattle.command.proofs.check.Tie as tie
@@ -48,15 +45,10 @@ returns-2 c =
     let k = c .before .before in
     let i = k .before .before in
     let a = i .before .before .before .args in
-    let f = a .flash .now in
-    let n = foundNumber (searched f (a .block .0) (a .len)) in
-    let all = allErased f (a .block .0) (a .len) in
-    let else = faultPlan (noted (a .s) f (a .block .0) (a .len)) checkErased in
     c .if-erased .ensures
-    ∙ ap (λ (p : Plan). cond all (telling p n) else)
+    ∙ ap (ifErased (a .s) (a .flash .now) (a .block .0) (a .len))
     (only-at (a .s) _ _ _ (c .before .only .ensures) (taken-at (a .s) _ _ _ (k .taken .ensures) (k .before .sync .ensures)))
-    ∙ ap (λ (p : Plan). cond all p else) (telling-sync (a .s) n)
-    ∙ plan-cond all _ _ Job.Nothing
+    ∙ erased-sync (a .s) (a .flash .now) (a .block .0) (a .len)
     ∙ ap (λ (o : Outcome). planOf o Job.Nothing)
     (yes-is _ _ _ _ (passed _ _ (i .before .in-application .ensures) (i .if1 .left)) refl)
 

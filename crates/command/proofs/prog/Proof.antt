@@ -1,15 +1,11 @@
 -- Each refusal by the tests that led to it; the write, if all is erased, by both of them passed. Assumes nothing.
 use Prim.Native.Nat.{ℕ, _-_}
-use mathlib.Core.Bool.{cond}
 use mathlib.Core.Path.{ap, _∙_}
 use native.Mathlib.Omega.{arith}
 use borrow.Author.Tests.{le-leb, lt-leb}
-use Rattle.flash.specs.Flash.{startOf, searched, foundNumber}
-use Rattle.session.specs.Codes.{checkErased}
-use Rattle.jobs.specs.Job.{Plan}
 use Rattle.jobs.proofs.Picks.{yes-is, no-is, refused, passed}
-use Rattle.command.specs.Download.{allErased, noted, wroteOf, faultPlan, telling, progOf}
-use Rattle.command.proofs.Laws.{ready-range, telling-wrote}
+use Rattle.command.specs.Download.{wroteOf, ifErased, progOf}
+use Rattle.command.proofs.Laws.{ready-range, erased-wrote}
 use borrow.Author.Needs.{needs}
 use Rattle.command.proofs.prog.Statement.{statement}
 use Rattle.command.proofs.prog.Tie as tie
@@ -73,16 +69,12 @@ returns-3 c =
     let t = k .before in
     let i = t .before in
     let a = i .before .before .before .args in
-    let f = a .flash .now in
-    let n = foundNumber (searched f (a .block .0) (a .len)) in
-    let all = allErased f (a .block .0) (a .len) in
-    let else = faultPlan (noted (a .s) f (a .block .0) (a .len)) checkErased in
     yes-is _ _ _ _ (passed _ _ (i .before .in-application .ensures) (i .if1 .left))
     (yes-is _ _ _ _ (le-leb _ _ (t .if2 .left))
     (c .if-erased .ensures
-    ∙ ap (λ (p : Plan). cond all (telling p n) else)
+    ∙ ap (ifErased (a .s) (a .flash .now) (a .block .0) (a .len))
     (c .before .write .ensures ∙ ap (λ (at : ℕ). wroteOf (a .s) at 8 (a .n) (a .len - a .n)) (k .start .ensures))
-    ∙ ap (λ (p : Plan). cond all p else) (telling-wrote (a .s) (startOf (a .block .0)) 8 (a .n) (a .len - a .n) n)))
+    ∙ erased-wrote (a .s) (a .flash .now) (a .block .0) (a .len) _ 8 (a .n) (a .len - a .n)))
 
 pub prog-spec : {M : Type 1} → statement M
 prog-spec =
