@@ -1,7 +1,7 @@
 -- The answers that refuse leave what their definitions write down, and a call is unfit by the first test alone. Assumes nothing.
 use Prim.Native.Nat.{ℕ, _+_, _-_, _≤_}
 use mathlib.Core.Bool.{Bool, true, false, cond, false≢true}
-use mathlib.Core.Logic.{inr}
+use mathlib.Core.Logic.{_⊎_, inl, inr, ⊎-elim}
 use mathlib.Core.Path.{_≡_, refl, sym, ap, _∙_, subst, subst⁻¹}
 use native.Mathlib.Omega.{arith}
 use borrow.Author.Tests.{eq-eqb, ne-eqb}
@@ -28,13 +28,16 @@ use Rattle.loader.specs.Step.{ready, served, stepOf, decidedOf, only, Decided, 
 use Rattle.demands.specs.Calls.{heard, Call, Site, called}
 use Rattle.demands.specs.Asked.{Prepared, Form, Allowed, Asks, NoRequest}
 use Rattle.demands.specs.Commanded.{Legal, Searches, prog, check}
-use Rattle.demands.specs.Safe.Refused.{Settled, InError, Stalled, FaultStatus, unsearched, not-erased, Faulted, AsFresh, AnswerRows}
+use Rattle.demands.specs.Safe.Refused.{Settled, InError, Stalled, FaultStatus, out-of-range, bytes-missing, bad-command, unsearched}
+use Rattle.demands.specs.Safe.Refused.{not-erased, Faulted, AsFresh, AnswerRows}
 use Rattle.demands.specs.Safe.Refused.{Refused, UnfitExactly, StalledExactly}
 use Rattle.demands.proofs.Ground.Ways.{Loads, ComesTo, by-prog, by-check, every-way}
 use Rattle.demands.proofs.Ground.Prepared.{prepared-ready, ready-prepared}
-use Rattle.demands.proofs.Ground.Unerased.{number-first}
+use Rattle.demands.proofs.Ground.Unerased.{blank-or-first, number-first}
 use Rattle.demands.proofs.Does.Forms.{request-form, no-request, asks-stalled, asks-brings}
 use Rattle.demands.proofs.Does.Downloads.{in-legal}
+use Rattle.demands.proofs.Does.Commands.{Commands-hold}
+use Rattle.demands.proofs.Does.Works.{ProgramWorks-holds}
 use Rattle.demands.proofs.Ground.Finished.{storedOf}
 
 -- a session with these groups is settled
@@ -95,15 +98,53 @@ taken at c l e =
       reset-asked = λ h. absurd (omega arith);
     }
 
+-- a call that searches is taken or has the status 05, by its row
+searched-heard :
+    (at : Site) (c : Call) (block len : ℕ) → Searches at c block len
+    → (heard (called stepOf at c) ≡ 0) ⊎ (called stepOf at c .session .phase .status .0 ≡ 0x05)
+searched-heard at c block len (prog n is long named legal few) =
+    ⊎-elim (λ blank. inl (ProgramWorks-holds at c .starts block len n is long named legal few blank .answers .answer))
+    (λ f.
+    inr
+    (ap (λ (s : Session). s .phase .status .0)
+    (Commands-hold at c .prog-unerased block len n (f .0) is long named legal few (f .1) .session)))
+    (blank-or-first at block len)
+searched-heard at c block len (check is named legal) =
+    ⊎-elim (λ blank. inl (Commands-hold at c .check block len is named legal blank .answers .answer))
+    (λ f.
+    inr
+    (ap (λ (s : Session). s .phase .status .0) (Commands-hold at c .check-unerased block len (f .0) is named legal (f .1) .session)))
+    (blank-or-first at block len)
+
+-- so one with another fault doesn't
+other-status : (n : ℕ) → FaultStatus n → n ≡ 0x05 → ⊥
+other-status n (out-of-range e) five = omega arith
+other-status n (bytes-missing e) five = omega arith
+other-status n (bad-command e) five = omega arith
+
+no-search :
+    (at : Site) (c : Call) (status : ℕ) → FaultStatus status
+    → called stepOf at c ≡ leaves (faultOf (at .session) status) (at .flash) (c .reply)
+    → (block len : ℕ) → Searches at c block len → ⊥
+unfolding faultOf movedTo
+no-search at c status h is block len s =
+    ⊎-elim
+    (λ zero.
+    let three : heard (called stepOf at c) ≡ 3 = ap heard is in
+    omega (arith, zero, three))
+    (λ five. other-status status h (sym (ap (λ (l : Leaves). l .session .phase .status .0) is) ∙ five))
+    (searched-heard at c block len s)
+
 faulted-row :
     (at : Site) (c : Call) → ((n : ℕ) × Form (c .setup) n Request.Dnload) → (status : ℕ) → FaultStatus status
+    → ((block len : ℕ) → Searches at c block len → ⊥)
     → Faulted at c (leaves (faultOf (at .session) status) (at .flash) (c .reply))
 unfolding faultOf movedTo
-faulted-row at c q status h =
+faulted-row at c q status h none =
     record {
       when = q;
       quiet = record { count = refl; flash = refl; reply = refl };
-      session = unsearched status h (errored (at .session) (at .session .unerased) status);
+      session = unsearched status h none (errored (at .session) (at .session .unerased) status);
     }
 
 -- what the search found is the first of the range, which lies in flash
@@ -161,24 +202,24 @@ prepared-rows : (at : Site) (c : Call) → Prepared at c → AnswerRows at c (ca
 unfolding called storedOf infoOf binOf unfitOf stallOf faultOf resetOf getstatusOf getstateOf queryOf answered uploadOf
 prepared-rows at c p =
     let s = at .session in
-    every-way s (at .flash) (c .setup) (c .bytes) (c .reply) (AnswerRows at c)
+    every-way s (at .flash) (c .setup) (c .bytes) (c .reply) (λ (l : Leaves). called stepOf at c ≡ l → AnswerRows at c l)
     (record {
-      unfits = λ e. absurd (false≢true (sym e ∙ prepared-ready at c p));
-      stalls = λ _ n.
+      unfits = λ e _. absurd (false≢true (sym e ∙ prepared-ready at c p));
+      stalls = λ _ n _.
           record {
             stalled = λ _. stalled-row at c (no-request at c p n);
             unfit = λ h. absurd (omega arith);
             faulted = λ h. absurd (omega arith);
             reset-asked = λ h. absurd (omega arith);
           };
-      faults = λ _ q status h.
+      faults = λ _ q status h is.
           record {
             stalled = λ h. absurd (omega arith);
             unfit = λ h. absurd (omega arith);
-            faulted = λ _. faulted-row at c (in-form at c p q) status h;
+            faulted = λ _. faulted-row at c (in-form at c p q) status h (no-search at c status h is);
             reset-asked = λ h. absurd (omega arith);
           };
-      unerased = λ l comes i n.
+      unerased = λ l comes i n _.
           let w = ready-range s (at .flash) (l .fit) (wordAt (c .bytes) 2) (longAt (c .bytes) 4) i in
           record {
             stalled = λ h. absurd (omega arith);
@@ -186,15 +227,15 @@ prepared-rows at c p =
             faulted = λ _. unerased-row at c (in-form at c p (l .is-dnload)) (searches-it at c p l comes i) (w .inside) n;
             reset-asked = λ h. absurd (omega arith);
           };
-      programs = λ _ _ _ _. taken at c _ refl;
-      pieces = λ _ _. taken at c _ refl;
-      closes = λ _. taken at c _ refl;
-      reads = λ _ _. taken at c _ refl;
-      checks = λ _. taken at c _ refl;
-      erases = λ _ _ _. taken at c _ refl;
-      informs = λ _. taken at c _ refl;
-      bins = λ _. taken at c _ refl;
-      resets = λ l n k.
+      programs = λ _ _ _ _ _. taken at c _ refl;
+      pieces = λ _ _ _. taken at c _ refl;
+      closes = λ _ _. taken at c _ refl;
+      reads = λ _ _ _. taken at c _ refl;
+      checks = λ _ _. taken at c _ refl;
+      erases = λ _ _ _ _. taken at c _ refl;
+      informs = λ _ _. taken at c _ refl;
+      bins = λ _ _. taken at c _ refl;
+      resets = λ l n k _.
           record {
             stalled = λ h. absurd (omega arith);
             unfit = λ h. absurd (omega arith);
@@ -206,12 +247,13 @@ prepared-rows at c p =
                   as-fresh = freshened s;
                 };
           };
-      uploads = λ _ _. taken at c _ refl;
-      polls = λ _ _. taken at c _ refl;
-      tells = λ _ _. taken at c _ refl;
-      queries = λ _ _. taken at c _ refl;
-      idles = λ _. taken at c _ refl;
+      uploads = λ _ _ _. taken at c _ refl;
+      polls = λ _ _ _. taken at c _ refl;
+      tells = λ _ _ _. taken at c _ refl;
+      queries = λ _ _ _. taken at c _ refl;
+      idles = λ _ _. taken at c _ refl;
     })
+    refl
 
 unfit-rows : (at : Site) (c : Call) → AnswerRows at c (leaves (unfitOf (at .session)) (at .flash) (c .reply))
 unfolding unfitOf

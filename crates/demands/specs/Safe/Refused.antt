@@ -62,10 +62,12 @@ pub data FaultStatus (n : ℕ) : Type 0 where
   bytes-missing : n ≡ 0x09 → FaultStatus n
   bad-command : n ≡ 0x0B → FaultStatus n
 
--- what a fault leaves of the session: state 10 with its status. Without a search the number of where flash wasn't erased stays; a PROG or
--- CHECK that searched its range has the status 05, and the number is the first address of the range whose byte isn't 0xFF
+-- what a fault leaves of the session: state 10 with its status. Of a call that doesn't search the number of where flash wasn't erased
+-- stays; a PROG or CHECK that searches its range has the status 05, and the number is the first address of the range whose byte isn't 0xFF
 pub data FaultLeaves (at : Site) (c : Call) (t : Session) : Type 0 where
-  unsearched : (status : ℕ) → FaultStatus status → InError (at .session) t status (at .session .unerased) → FaultLeaves at c t
+  unsearched :
+      (status : ℕ) → FaultStatus status → ((block len : ℕ) → Searches at c block len → ⊥)
+      → InError (at .session) t status (at .session .unerased) → FaultLeaves at c t
   not-erased :
       (block len k : ℕ) → Searches at c block len → FirstUnerased at block len k → InError (at .session) t 0x05 k
       → FaultLeaves at c t
