@@ -1,4 +1,6 @@
 // What the host hears, how a session goes on to another state, and the answers that refuse.
+#![tactic(auto)]
+
 ghost use Rattle.std.specs.Prelude.{◌≡◌, true};
 ghost use Rattle.session.specs.Session.{phase_of, down_of, with_talk};
 ghost use Rattle.session.specs.Rules.{fit_of};

@@ -1,5 +1,7 @@
 // The loader as a board written in C calls it: a start, and one request after another over the session that the board keeps.
 // Answers are numbers here, since no enum can be handed over to C. `include/mullirim.h` declares these calls.
+#![tactic(auto)]
+
 ghost use Rattle.std.specs.Prelude.{◌≡◌};
 ghost use Rattle.board.specs.Board.{started_of, at_board, requested_of};
 

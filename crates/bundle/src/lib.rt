@@ -1,5 +1,7 @@
 // A site bundle: images packed end to end into one file, behind a count and an entry for each of them. It is read from
 // any bytes, and written into a lent buffer.
+#![tactic(auto)]
+
 ghost use Rattle.std.specs.Prelude.{◌+◌, ◌^◌, ◌≤◌, ◌<◌, true, ◌≡◌, ◌++◌, length};
 ghost use Rattle.numbers.specs.Numbers.{bytes4};
 ghost use Rattle.pieces.specs.Pieces.{Laid};

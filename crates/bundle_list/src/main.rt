@@ -1,4 +1,6 @@
 // The images of the bundle on standard input, up to 65,536 bytes, as a list; or that it is refused.
+#![tactic(auto)]
+
 use libc::{STDIN_FILENO, STDOUT_FILENO};
 
 fn main() {

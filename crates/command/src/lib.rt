@@ -1,5 +1,7 @@
 // DNLOAD: the eight-byte commands in state idle, and pieces of data in state download idle. Flash is only read here: what is to be done
 // to it is answered as a job.
+#![tactic(auto)]
+
 ghost use Rattle.std.specs.Prelude.{◌+◌, ◌≤◌, ◌<◌, ◌≡◌, true, length, get_or};
 ghost use Rattle.flash.specs.Flash.{start_of, Within};
 ghost use Rattle.session.specs.Rules.{fit_of};

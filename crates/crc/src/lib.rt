@@ -1,4 +1,6 @@
 // The sum of the DFU file suffix: CRC-32, reflected, with no final complement; and the join of two sums.
+#![tactic(auto)]
+
 ghost use Rattle.std.specs.Prelude.{◌≤◌, ◌≡◌, length, drop};
 ghost use Rattle.crc.specs.Crc.{byte_step, crc_from, crc_of, remainders};
 ghost use Rattle.crc.specs.Join.{block_bits, joined, joined_of, past_halves, Past};

@@ -1,4 +1,6 @@
 // Plays the desk examples, a script on standard input, through the loader.
+#![tactic(auto)]
+
 use libc::STDIN_FILENO;
 
 fn main() {

@@ -1,5 +1,7 @@
 // The file formats as a host written in C or Rust calls them, in an archive of their own: a board needs none of them.
 // Refusals are numbers here, since no enum can be handed over to C. `include/mullirim_files.h` declares these calls.
+#![tactic(auto)]
+
 ghost use Rattle.std.specs.Prelude.{◌+◌, ◌≤◌, ◌≡◌, length};
 ghost use Rattle.suffix.specs.Suffix.{read_of};
 ghost use Rattle.bundle.specs.Bundle.{part_of};

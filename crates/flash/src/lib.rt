@@ -1,5 +1,7 @@
 // A flash of blocks, lent as a slice of bytes: where a block begins, the one store, erase, program, and the search for a byte
 // that is not erased. How many blocks there are is the caller's to know; a range has to lie in the slice.
+#![tactic(auto)]
+
 ghost use Rattle.std.specs.Prelude.{◌+◌, ◌<◌, ◌≤◌, ◌^◌, ◌≡◌, length, set};
 ghost use Rattle.flash.specs.Flash.{start_of, reach_of, lies_in, ends_at, holder_of, Within};
 ghost use Rattle.flash.specs.Flash.{blank, spliced, erased, range, first_in, searched, nothing, found_number, eight_at, Passed};

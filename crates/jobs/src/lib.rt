@@ -1,4 +1,6 @@
 // What a call does to flash. Others decide it, and are lent flash to read only; here alone a job is carried out, and the sums with it.
+#![tactic(auto)]
+
 ghost use Rattle.std.specs.Prelude.{◌≡◌};
 ghost use Rattle.flash.specs.Flash.{carried};
 ghost use Rattle.sums.specs.Sum.{Split};

@@ -1,4 +1,6 @@
 // The list of a bundle's images, as text: how many there are, then a line for each with its number, its length and its sum.
+#![tactic(auto)]
+
 ghost use Rattle.std.specs.Prelude.{◌+◌, ◌*◌, ◌≤◌, ◌<◌, ◌≡◌, ◌++◌, length};
 ghost use Rattle.pieces.specs.Pieces.{Laid};
 ghost use Rattle.listing.specs.Listing.{most_bytes, images_word, space, feed, line_of, lines_from, listed, list_of, most_first, most_line, most_text};

@@ -1,4 +1,6 @@
 // The loader: a fresh start, and one request after another. It checks all that it is handed, so a board's programmer need not.
+#![tactic(auto)]
+
 ghost use Rattle.std.specs.Prelude.{◌≡◌, length};
 ghost use Rattle.answers.specs.Answers.{leaves, told};
 ghost use Rattle.jobs.specs.Job.{planned};

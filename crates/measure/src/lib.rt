@@ -1,4 +1,6 @@
 // The sum and the join by themselves, for C and Rust to measure: each of the loader's own calls does more.
+#![tactic(auto)]
+
 ghost use Rattle.std.specs.Prelude.{◌≡◌};
 ghost use Rattle.crc.specs.Crc.{crc_of};
 ghost use Rattle.crc.specs.Join.{joined};

@@ -1,4 +1,6 @@
 // Numbers of 16, 24 and 32 bits in bytes, low byte first: read from a place, and taken apart to be written.
+#![tactic(auto)]
+
 ghost use Rattle.std.specs.Prelude.{◌+◌, ◌<◌, ◌≡◌, [], ◌∷◌, length};
 ghost use Rattle.numbers.specs.Numbers.{word_at, long_at, bytes2, bytes3, bytes4};
 

@@ -1,4 +1,6 @@
 // Pieces of a file or a text, laid into a lent buffer one behind the other.
+#![tactic(auto)]
+
 ghost use Rattle.std.specs.Prelude.{◌+◌, ◌≤◌, length};
 ghost use Rattle.pieces.specs.Pieces.{Laid};
 

@@ -1,4 +1,6 @@
 // Plays the script on standard input, one session of every kind of request, through the loader.
+#![tactic(auto)]
+
 use libc::STDIN_FILENO;
 
 fn main() {

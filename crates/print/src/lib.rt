@@ -1,4 +1,6 @@
 // Numbers as text, in ASCII.
+#![tactic(auto)]
+
 ghost use Rattle.std.specs.Prelude.{◌+◌, ◌≤◌, ◌<◌, ◌≡◌, length};
 ghost use Rattle.pieces.specs.Pieces.{Laid};
 ghost use Rattle.print.specs.Hex.{digit_of, hex_of};

@@ -1,5 +1,7 @@
 // What the host asks: eight setup bytes to one of seven requests or none, the table of requests by states, and the numbers of the
 // eight-byte commands.
+#![tactic(auto)]
+
 ghost use Rattle.std.specs.Prelude.{◌≡◌};
 ghost use Rattle.request.specs.Request.{setup_of, has_form, in_form, form_of, request_of, w_length, data_asked};
 ghost use Rattle.request.specs.Request.{allowed_of, row_of};

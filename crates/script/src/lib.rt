@@ -1,4 +1,6 @@
 // A script of calls, played through the loader: a line of standard output for the start, and one for each call.
+#![tactic(auto)]
+
 ghost use Rattle.std.specs.Prelude.{◌≤◌, ◌≡◌, length};
 ghost use Rattle.script.specs.Tape.{calls_after_head, calls_of};
 ghost use Rattle.script.specs.Turn.{turned, turn_of};

@@ -1,5 +1,7 @@
 // The session that a board keeps between two requests, the rules that a fit one keeps, and the fresh one.
 // It holds numbers only, so any bytes that a board lends are a session, and a broken one is unfit and nothing worse.
+#![tactic(auto)]
+
 ghost use Rattle.std.specs.Prelude.{◌≡◌, true};
 ghost use Rattle.session.specs.Codes.{column_of};
 ghost use Rattle.session.specs.Session.{allowed_split, board_of, app_end, stream_length, talk_of, fresh_talk, fresh_of, zeros_of};

@@ -1,4 +1,6 @@
 // The bytes that an upload reads: the info bytes, or a PROG header for the read range and then the range.
+#![tactic(auto)]
+
 ghost use Rattle.std.specs.Prelude.{◌+◌, ◌^◌, ◌≤◌, ◌<◌, min, ◌≡◌, ◌++◌, length, get_or, take, drop};
 ghost use Rattle.flash.specs.Flash.{start_of, Within, range};
 ghost use Rattle.session.specs.Session.{app_end, info_length, prefix_length};

@@ -1,5 +1,7 @@
 // The suffix of a DFU file: 16 bytes behind the image that say for whom it is and vouch for all before them. It is read from any
 // bytes, and written behind a file into a lent buffer.
+#![tactic(auto)]
+
 ghost use Rattle.std.specs.Prelude.{◌≤◌, ◌≡◌, ◌++◌, length};
 ghost use Rattle.suffix.specs.Suffix.{StandsAt, signed_at, sized_at, versioned_at, summed_at, parts_at, vouched_at, read_at, read_of};
 ghost use Rattle.suffix.specs.Suffix.{refusal_number, front_of, sum_bytes, size_with, laid, left, write_of};

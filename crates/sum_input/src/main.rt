@@ -1,4 +1,6 @@
 // The sum of standard input, up to 65,536 bytes, as eight hexadecimal digits; or that it is too long.
+#![tactic(auto)]
+
 use libc::{STDIN_FILENO, STDOUT_FILENO};
 
 const MOST: usize = 65_536;

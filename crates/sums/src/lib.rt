@@ -1,5 +1,7 @@
 // The kept sums of a flash: one for each application block and one over the whole application, made fresh and refreshed
 // after blocks changed. The application is given by its first block and the block after its last.
+#![tactic(auto)]
+
 ghost use Rattle.std.specs.Prelude.{◌+◌, ◌-◌, ◌≤◌, ◌≡◌};
 ghost use Rattle.sums.specs.Sum.{block_sum, fresh_sums, joined_sum, most_blocks, refreshed, renewed, Split};
 

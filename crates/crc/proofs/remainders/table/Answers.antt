@@ -2,12 +2,8 @@
 use mathlib.Core.Path.{refl, sym}
 use Rattle.crc.specs.Values.{values}
 use Rattle.crc.specs.Crc.{bit_step, bit_steps, remainders}
-use Rattle.crc.proofs.remainders.table.Statement.{statement}
-use Rattle.crc.proofs.remainders.table.Tie as tie
+use Rattle.crc.proofs.remainders.table.Goals as goal
 
-returns : tie.Need-returns
+pub returns : goal.returns
 unfolding remainders values bit_steps bit_step
 returns c = sym (refl {a = remainders})
-
-pub table-spec : {M : Type 1} → statement M
-table-spec = tie.close (tie.spec returns)

@@ -3,12 +3,8 @@ use mathlib.Core.Path.{refl, sym, ◌∙◌}
 use Rattle.crc.specs.Values.{values}
 use Rattle.crc.specs.Crc.{bit_step}
 use Rattle.crc.proofs.Columns.{through, squared, columns_of, halves, halves_are}
-use Rattle.crc.proofs.halves.of_4.Statement.{statement}
-use Rattle.crc.proofs.halves.of_4.Tie as tie
+use Rattle.crc.proofs.halves.of_4.Goals as goal
 
-returns : tie.Need-returns
+pub returns : goal.returns
 unfolding halves columns_of squared through values bit_step
 returns c = sym (refl {a = halves (columns_of 5)}) ∙ halves_are 5
-
-pub of-4-spec : {M : Type 1} → statement M
-of-4-spec = tie.close (tie.spec returns)

@@ -1,0 +1,15 @@
+-- The walk over the eight sums (Streams).
+use Prim.Native.Nat.{◌-◌, ◌≤◌}
+use mathlib.Core.Path.{refl, ◌∙◌}
+use native.Mathlib.Omega.{arith}
+use borrow.Author.Rules.{rules}
+use Rattle.crc.specs.Join.{past_halves}
+use Rattle.crc.specs.Eighths.{eighth_bits}
+use Rattle.crc.proofs.Streams.{JoinLeft, join_next, join-done}
+use Rattle.crc.proofs.eighths.join_block.Given as goal
+
+abbrev pub invariant-loop-s : goal.invariant-loop-s
+invariant-loop-s l = (1 ≤ l.s) × (l.s ≤ 8) × JoinLeft (past_halves eighth_bits) l.sums l.sum l.s
+
+abbrev pub decreases-loop-s : goal.decreases-loop-s
+decreases-loop-s l = 8 - l.s

@@ -1,0 +1,15 @@
+-- The loop keeps that putting bytes into the rest gives what putting them into all gives (Streams).
+use Prim.Native.Nat.{◌-◌, ◌≤◌}
+use mathlib.Core.Path.{◌≡◌, refl, sym, ◌∙◌, ap}
+use native.Mathlib.Omega.{arith}
+use lib.ListN.{get_or}
+use lib.Bits.{bit_xor}
+use Rattle.crc.specs.Eighths.{each_from, with_four}
+use Rattle.crc.proofs.Streams.{each_turn, each_done, place_inside}
+use Rattle.crc.proofs.eighths.put_in.Given as goal
+
+abbrev pub invariant-loop-s : goal.invariant-loop-s
+invariant-loop-s l = (l.s ≤ 8) × (each_from (with_four l.bytes l.at l.eighth) l.sums l.s (8 - l.s) ≡ each_from (with_four l.bytes l.at l.eighth) l.initial.sums 0 8)
+
+abbrev pub decreases-loop-s : goal.decreases-loop-s
+decreases-loop-s l = 8 - l.s

@@ -1,0 +1,13 @@
+-- What is picked so far and what is left to pick give all that is picked (Joins).
+use Prim.Native.Nat.{◌-◌, ◌≤◌}
+use mathlib.Core.Path.{◌≡◌, sym, ◌∙◌}
+use native.Mathlib.Omega.{arith}
+use lib.Bits.{bit_xor, xor_zero_l}
+use Rattle.crc.proofs.Joins.{picked_from, picked, picked_bits, picked_next, picked_done}
+use Rattle.crc.proofs.past.Given as goal
+
+abbrev pub invariant-loop-place : goal.invariant-loop-place
+invariant-loop-place l = (l.place ≤ 8) × (bit_xor l.past (picked_from l.half l.place (8 - l.place) l.left) ≡ picked l.half l.running)
+
+abbrev pub decreases-loop-place : goal.decreases-loop-place
+decreases-loop-place l = 8 - l.place
