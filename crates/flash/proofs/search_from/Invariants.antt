@@ -1,0 +1,22 @@
+-- Both loops keep that what is left of the range holds the answer (Unerased), also behind what is passed over eight bytes at a time; the
+-- label is left at the first byte that is not erased.
+-- Assumes nothing.
+use Prim.Native.Nat.{◌+◌, ◌-◌, ◌≤◌}
+use mathlib.Core.Path.{◌≡◌, refl, ◌∙◌}
+use mathlib.Core.Logic.{⊎_elim}
+use native.Mathlib.Omega.{arith}
+use Rattle.flash.specs.declared.Found.{Found}
+use Rattle.flash.proofs.Unerased.{Ahead, ahead_from, ahead_one, ahead_passed, ahead_found, ahead_none}
+use Rattle.flash.proofs.search_from.Given as goal
+
+abbrev pub invariant-loop-at : goal.invariant-loop-at
+invariant-loop-at l = (l.found ≡ Found.Nothing) × (l.at ≤ l.stop) × (l.stop ≤ l.end) × Ahead l.flash (l.end - l.n) l.n l.at
+
+abbrev pub decreases-loop-at : goal.decreases-loop-at
+decreases-loop-at l = l.stop - l.at
+
+abbrev pub invariant-search : goal.invariant-search
+invariant-search l = (l.found ≡ Found.Nothing) × Ahead l.flash (l.end - l.n) l.n l.at
+
+abbrev pub decreases-search : goal.decreases-search
+decreases-search l = l.end - l.at
