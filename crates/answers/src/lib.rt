@@ -12,7 +12,7 @@ use flash::Addr;
 use session::{Download, Phase, Session, State, Status, Talk};
 
 // What the host hears.
-#[derive(Drop)]
+#[derive(Clone, Copy)]
 pub enum Answer {
     Taken,
     Stalled,
@@ -22,7 +22,7 @@ pub enum Answer {
 }
 
 // An answer, how many bytes of the reply are meant, and the session for the next call.
-#[derive(Drop)]
+#[derive(Clone, Copy)]
 pub struct Outcome {
     pub answer: Answer,
     pub count: u32,
@@ -30,7 +30,7 @@ pub struct Outcome {
 }
 
 // What the host hears, and how the talk goes on from there: what is decided of an outcome.
-#[derive(Drop)]
+#[derive(Clone, Copy)]
 pub struct Heard {
     pub answer: Answer,
     pub count: u32,

@@ -10,7 +10,7 @@ use session::Session;
 
 // The session of a start, with its answer.
 #[repr(C)]
-#[derive(Drop)]
+#[derive(Clone, Copy)]
 pub struct Started {
     pub code: u32,
     pub session: Session,
@@ -18,7 +18,7 @@ pub struct Started {
 
 // What the host hears: the answer, and how many bytes of the reply buffer are meant.
 #[repr(C)]
-#[derive(Drop)]
+#[derive(Clone, Copy)]
 pub struct Reply {
     pub code: u32,
     pub count: u32,
@@ -26,7 +26,7 @@ pub struct Reply {
 
 // A reply, with the session for the next call.
 #[repr(C)]
-#[derive(Drop)]
+#[derive(Clone, Copy)]
 struct Handled {
     answer: Reply,
     session: Session,

@@ -11,7 +11,7 @@ use crate::{byte_step, halves, past, remainders};
 pub const BLOCK: usize = 1024;
 
 // How far a sum has come: the sum of all that stands before a place.
-#[derive(Drop)]
+#[derive(Clone, Copy)]
 pub struct Reached {
     pub sum: u32,
     pub at: usize,

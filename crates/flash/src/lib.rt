@@ -23,23 +23,23 @@ const ALL_ERASED: u64 = 0xFFFF_FFFF_FFFF_FFFF;
 
 // A block's number, counted from the start of flash.
 #[repr(C)]
-#[derive(Drop)]
+#[derive(Clone, Copy)]
 pub struct Block(pub u32);
 
 // A byte's address, counted from the start of flash.
 #[repr(C)]
-#[derive(Drop)]
+#[derive(Clone, Copy)]
 pub struct Addr(pub u32);
 
 // Where a block begins, if a 32-bit address can say so.
-#[derive(Drop)]
+#[derive(Clone, Copy)]
 pub enum Reach {
     At(Addr),
     Past,
 }
 
 // What a search for a byte that is not erased comes back with.
-#[derive(Drop)]
+#[derive(Clone, Copy)]
 pub enum Found {
     At(Addr),
     Nothing,

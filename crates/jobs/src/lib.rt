@@ -14,7 +14,7 @@ use flash::{Addr, Block};
 use session::{Board, Session};
 use sums::Sums;
 
-#[derive(Drop)]
+#[derive(Clone, Copy)]
 pub enum Job {
     // Flash stays as it is.
     Nothing,
@@ -25,7 +25,7 @@ pub enum Job {
 }
 
 // What was decided: what the host hears, and what is still to be done to flash.
-#[derive(Drop)]
+#[derive(Clone, Copy)]
 pub struct Decision {
     pub heard: Heard,
     pub job: Job,

@@ -5,13 +5,13 @@ ghost use Rattle.std.specs.Prelude.{◌+◌, ◌<◌, ◌≡◌, [], ◌∷◌, 
 ghost use Rattle.numbers.specs.Numbers.{word_at, long_at, bytes2, bytes3, bytes4};
 
 // The low bytes of a number, lowest first.
-#[derive(Drop)]
+#[derive(Clone, Copy)]
 pub struct Two(pub u8, pub u8);
 
-#[derive(Drop)]
+#[derive(Clone, Copy)]
 pub struct Three(pub u8, pub u8, pub u8);
 
-#[derive(Drop)]
+#[derive(Clone, Copy)]
 pub struct Four(pub u8, pub u8, pub u8, pub u8);
 
 fn wide(byte: u8) -> u32

@@ -8,7 +8,7 @@ ghost use Rattle.request.specs.Request.{allowed_of, row_of};
 
 use session::State;
 
-#[derive(Drop)]
+#[derive(Clone, Copy)]
 pub enum Request {
     Dnload,
     Upload,
@@ -21,7 +21,7 @@ pub enum Request {
 }
 
 // The number of an eight-byte command; the byte after it and the rest are read by the command's own rules.
-#[derive(Drop)]
+#[derive(Clone, Copy)]
 pub struct Command(pub u8);
 
 impl Command {
@@ -41,7 +41,7 @@ impl Command {
 }
 
 // The parts of a setup: bmRequestType, bRequest, wValue, wIndex, wLength.
-#[derive(Drop)]
+#[derive(Clone, Copy)]
 struct Setup {
     kind: u8,
     number: u8,

@@ -17,7 +17,7 @@ const PREFIX_LENGTH: u64 = 8;
 const INFO_LENGTH: u64 = 24;
 
 #[repr(C)]
-#[derive(Drop)]
+#[derive(Clone, Copy)]
 pub struct State(pub u8);
 
 impl State {
@@ -54,7 +54,7 @@ impl State {
 }
 
 #[repr(C)]
-#[derive(Drop)]
+#[derive(Clone, Copy)]
 pub struct Status(pub u8);
 
 impl Status {
@@ -73,7 +73,7 @@ impl Status {
 
 // What a start was told: A, B and the part numbers.
 #[repr(C)]
-#[derive(Drop)]
+#[derive(Clone, Copy)]
 pub struct Board {
     pub a: Block,
     pub b: Block,
@@ -83,7 +83,7 @@ pub struct Board {
 
 // The state, its status, and the state after sync.
 #[repr(C)]
-#[derive(Drop)]
+#[derive(Clone, Copy)]
 pub struct Phase {
     pub state: State,
     pub status: Status,
@@ -92,7 +92,7 @@ pub struct Phase {
 
 // Where a running download's next byte goes, and how many bytes remain.
 #[repr(C)]
-#[derive(Drop)]
+#[derive(Clone, Copy)]
 pub struct Download {
     pub place: Addr,
     pub left: u32,
@@ -100,7 +100,7 @@ pub struct Download {
 
 // What an upload reads. Flags are numbers, since a lent byte may hold anything.
 #[repr(C)]
-#[derive(Drop)]
+#[derive(Clone, Copy)]
 pub struct Upload {
     // Which stream: one of the two below.
     pub choice: u8,
@@ -121,7 +121,7 @@ impl Upload {
 
 // Where the talk with the host stands: all of a session that a decision changes. What is decided hands on this and no session, since the
 // sums of all blocks are large, and each session that is handed back would be a copy of them on the stack.
-#[derive(Drop)]
+#[derive(Clone, Copy)]
 pub struct Talk {
     pub phase: Phase,
     pub down: Download,
@@ -130,7 +130,7 @@ pub struct Talk {
 }
 
 #[repr(C)]
-#[derive(Drop)]
+#[derive(Clone, Copy)]
 pub struct Session {
     pub board: Board,
     pub phase: Phase,

@@ -11,7 +11,7 @@ use flash::Block;
 pub const MOST: usize = 256;
 
 #[repr(C)]
-#[derive(Drop)]
+#[derive(Clone, Copy)]
 pub struct Sums {
     pub block: [u32; MOST],
     pub whole: u32,
