@@ -222,8 +222,8 @@ module _ (p : Phase) where
       ⊎_elim (λ h. inl (eqb-true _ _ h)) (λ h. inr (eqb-true _ _ (right_of sync on h)))
       (either (eqb p.after.0 idle) (sync && on) e)
 
-  no_download : (d : Download) → download_rule p d ≡ true → (Running p → ⊥) → d ≡ no_download
-  no_download d e n =
+  no_download_lem : (d : Download) → download_rule p d ≡ true → (Running p → ⊥) → d ≡ no_download
+  no_download_lem d e n =
       let no_place = eqb d.place.0 0 in
       let none_left = eqb d.left 0 in
       let z = unless (running p) (no_place && none_left) e (not_running p n) in
@@ -311,7 +311,7 @@ fit_facts s e =
       state = state_cases s.phase.state.0 k.state;
       status_outside = status.0;
       status_inside = status.1;
-      no_download = no_download s.phase s.down k.download;
+      no_download = no_download_lem s.phase s.down k.download;
       no_upload = upload.0;
       in_stream = upload.1;
       after_sync = λ h. after_sync s.phase k.after;

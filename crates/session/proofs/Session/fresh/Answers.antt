@@ -4,17 +4,12 @@ use Rattle.session.specs.declared.Talk.{Talk}
 use Rattle.session.specs.declared.Session.{Session}
 use Rattle.session.specs.Session.{board_of, fresh_of}
 use borrow.Author.Rules.{rules}
-use Rattle.session.proofs.Session.fresh.Statement.{statement}
-use Rattle.session.proofs.Session.fresh.Tie as tie
+use Rattle.session.proofs.Session.fresh.Goals as goal
 
-fresh-talk-requires : tie.Need-fresh-talk-requires
-fresh-talk-requires c κs = search rules
-
-returns : tie.Need-returns
+pub returns : goal.returns
 unfolding fresh_of
 returns c =
-    let made = c.before.before.before in
-    let a = made.before.args in
+    let a = c.args in
     let over : Talk → Session =
     λ t.
     record {
@@ -25,7 +20,4 @@ returns c =
       unerased = t.unerased;
       sums = a.sums;
     } in
-    ap over made.fresh_talk.ensures
-
-pub fresh-spec : {M : Type 1} → statement M
-fresh-spec = tie.close (tie.spec fresh-talk-requires returns)
+    ap over c.fresh_talk-talk.ensures

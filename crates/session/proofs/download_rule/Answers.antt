@@ -1,0 +1,6 @@
+-- The rule's test of the phase is what `runs` answers.
+use borrow.Author.Rules.{rules}
+use Rattle.session.proofs.download_rule.Goals as goal
+
+pub returns : goal.returns
+returns c = rw c.runs.ensures

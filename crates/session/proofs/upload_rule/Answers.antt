@@ -1,0 +1,6 @@
+-- The stream's end is what `stream_length` answers.
+use borrow.Author.Rules.{rules}
+use Rattle.session.proofs.upload_rule.Goals as goal
+
+pub returns : goal.returns
+returns c = rw c.stream_length.ensures
