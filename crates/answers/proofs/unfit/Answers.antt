@@ -6,17 +6,10 @@ use Rattle.answers.specs.Answers.{outcome}
 use Rattle.answers.specs.declared.Answer.{Answer}
 use Rattle.answers.specs.Moves.{unfit_of}
 use borrow.Author.Rules.{rules}
-use Rattle.answers.proofs.unfit.Statement.{statement}
-use Rattle.answers.proofs.unfit.Tie as tie
+use Rattle.answers.proofs.unfit.Goals as goal
 
-talk-of-requires : tie.Need-talk-of-requires
-talk-of-requires c κs = search rules
-
-returns : tie.Need-returns
+pub returns : goal.returns
 unfolding unfit_of
 returns c =
-    let s = c.before.args.s in
+    let s = c.args.s in
     ap (λ (t : Talk). outcome Answer.Unfit 0 (with_talk s t)) c.talk_of.ensures
-
-pub unfit-spec : {M : Type 1} → statement M
-unfit-spec = tie.close (tie.spec talk-of-requires returns)
