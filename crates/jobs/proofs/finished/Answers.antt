@@ -1,0 +1,9 @@
+-- What was heard, with the sums that the job left. Assumes nothing.
+use mathlib.Core.Path.{ap}
+use Rattle.answers.specs.Answers.{heardAt}
+use Rattle.jobs.specs.Job.{summed}
+use borrow.Author.Rules.{rules}
+use Rattle.jobs.proofs.finished.Goals as goal
+
+pub returns : goal.returns
+returns c = ap (summed (heardAt c.args.s c.args.x.heard)) c.sums_done-sums.ensures
