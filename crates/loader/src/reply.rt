@@ -14,7 +14,8 @@ fn answer(talk: Talk, bytes: &[u8], reply: &mut [u8]) -> Heard
     ensures value { result ≡ heard Answer.Taken (length bytes.now) talk }
     ensures reply_after { reply.new ≡ bytes.now ++ drop (length bytes.now) reply.old }
 {
-    let n = bytes::copy(bytes, reply);
+    let n = bytes.len();
+    reply[..n].copy_from_slice(bytes);
     Heard {
         answer: Answer::Taken,
         count: n as u32,

@@ -6,22 +6,14 @@ use Rattle.session.specs.declared.Session.{Session}
 use Rattle.answers.specs.Moves.{moved_to}
 use Rattle.loader.specs.Upload.{uploading_at}
 use borrow.Author.Rules.{rules}
-use Rattle.loader.proofs.upload.uploading.Statement.{statement}
-use Rattle.loader.proofs.upload.uploading.Tie as tie
+use Rattle.loader.proofs.upload.uploading.Goals as goal
 
-idle-requires : tie.Need-idle-requires
-idle-requires c κs = search rules
-
-returns : tie.Need-returns
+pub returns : goal.returns
 unfolding uploading_at moved_to
 returns c =
-    let i = c.before.before in
-    let place = i.before.args.place in
+    let place = c.args.place in
     ap
     (λ (x : Session).
     with_up (with_phase x (phase_of upload_idle x.phase.status.0 x.phase.after.0))
     (up_of x.up.choice x.up.«prefix» x.up.first.0 x.up.len place))
-    i.idle.ensures
-
-pub uploading-spec : {M : Type 1} → statement M
-uploading-spec = tie.close (tie.spec idle-requires returns)
+    c.idle-t.ensures
