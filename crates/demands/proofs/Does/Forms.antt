@@ -42,6 +42,7 @@ module _ (setup : List ℕ) (eight : length setup ≡ 8) where
   form_request Request.GetState n (getstate s e) = ap form_of (said 0xA1 5 n s) ∙ rw e
   form_request Request.Abort n (abort s e) = ap form_of (said 0x21 6 n s) ∙ rw e
   form_request Request.Query n (query s e v) = ap form_of (said 0xA1 0x42 n s) ∙ rw (e, v)
+  form_request Request.Nothing n none = elim none [ ]
 
   pub form_length : (r : Request) (n : ℕ) → Form setup n r → w_length setup ≡ n
   form_length Request.Dnload n (dnload s few) = ap (λ x. x.length) (said 0x21 1 n s)
@@ -51,6 +52,7 @@ module _ (setup : List ℕ) (eight : length setup ≡ 8) where
   form_length Request.GetState n (getstate s e) = ap (λ x. x.length) (said 0xA1 5 n s)
   form_length Request.Abort n (abort s e) = ap (λ x. x.length) (said 0x21 6 n s)
   form_length Request.Query n (query s e v) = ap (λ x. x.length) (said 0xA1 0x42 n s)
+  form_length Request.Nothing n none = elim none [ ]
 
   -- and back: what is read as a request is in form
   module _ (kind number least most : ℕ) (e : has_form (setup_of setup) kind number least most ≡ true) where
@@ -71,23 +73,23 @@ module _ (setup : List ℕ) (eight : length setup ≡ 8) where
     most_said : w_length setup ≤ most
     most_said = (form_facts (setup_of setup) kind number least most e).4
 
-  in_form : (r : Request) → in_form r (setup_of setup) ≡ true → (r ≡ Request.Nothing → ⊥) → Form setup (w_length setup) r
-  in_form Request.Dnload e some = dnload (says 0x21 1 0 1024 e) (most_said 0x21 1 0 1024 e)
-  in_form Request.Upload e some = upload (says 0xA1 2 1 1024 e) (least_said 0xA1 2 1 1024 e) (most_said 0xA1 2 1 1024 e)
-  in_form Request.GetStatus e some = getstatus (says 0xA1 3 6 6 e) (omega (arith, least_said 0xA1 3 6 6 e, most_said 0xA1 3 6 6 e))
-  in_form Request.ClrStatus e some = clrstatus (says 0x21 4 0 0 e) (omega (arith, most_said 0x21 4 0 0 e))
-  in_form Request.GetState e some = getstate (says 0xA1 5 1 1 e) (omega (arith, least_said 0xA1 5 1 1 e, most_said 0xA1 5 1 1 e))
-  in_form Request.Abort e some = abort (says 0x21 6 0 0 e) (omega (arith, most_said 0x21 6 0 0 e))
-  in_form Request.Query e some =
+  in_form_lem : (r : Request) → in_form r (setup_of setup) ≡ true → (r ≡ Request.Nothing → ⊥) → Form setup (w_length setup) r
+  in_form_lem Request.Dnload e some = dnload (says 0x21 1 0 1024 e) (most_said 0x21 1 0 1024 e)
+  in_form_lem Request.Upload e some = upload (says 0xA1 2 1 1024 e) (least_said 0xA1 2 1 1024 e) (most_said 0xA1 2 1 1024 e)
+  in_form_lem Request.GetStatus e some = getstatus (says 0xA1 3 6 6 e) (omega (arith, least_said 0xA1 3 6 6 e, most_said 0xA1 3 6 6 e))
+  in_form_lem Request.ClrStatus e some = clrstatus (says 0x21 4 0 0 e) (omega (arith, most_said 0x21 4 0 0 e))
+  in_form_lem Request.GetState e some = getstate (says 0xA1 5 1 1 e) (omega (arith, least_said 0xA1 5 1 1 e, most_said 0xA1 5 1 1 e))
+  in_form_lem Request.Abort e some = abort (says 0x21 6 0 0 e) (omega (arith, most_said 0x21 6 0 0 e))
+  in_form_lem Request.Query e some =
       let q = has_form (setup_of setup) 0xA1 0x42 4 4 in
       let v = eqb (setup_of setup).value 0x23 in
       let h = left_of q v e in
       query (says 0xA1 0x42 4 4 h) (omega (arith, least_said 0xA1 0x42 4 4 h, most_said 0xA1 0x42 4 4 h))
       (ap (λ x. x.value) (sym (setup_read setup eight)) ∙ eqb-true _ _ (right_of q v e))
-  in_form Request.Nothing e some = absurd (some refl)
+  in_form_lem Request.Nothing e some = absurd (some refl)
 
   pub request_form : (r : Request) → request_of setup ≡ r → (r ≡ Request.Nothing → ⊥) → Form setup (w_length setup) r
-  request_form r e some = in_form r (rw e at (form_right (setup_of setup))) some
+  request_form r e some = in_form_lem r (rw e at (form_right (setup_of setup))) some
 
 -- the states that the table's last column names
 pub allowed_told : (r : Request) (n state : ℕ) → KnownState state → Allowed r n state → allowed_of r n state ≡ true

@@ -74,9 +74,9 @@ module _ (at : Site) (c : Call) (n place : ℕ) (k : Asks at c Request.Upload n)
   unfolding answered
   upload-count e = ap (λ (l : Leaves). l.count) (uploads e) ∙ count_is
 
-  upload_ends : StartsAt at place → n < 1024 → Moves step_of at c 0 (next_bytes at place n) 2 0
+  upload_ends_lem : StartsAt at place → n < 1024 → Moves step_of at c 0 (next_bytes at place n) 2 0
   unfolding uploaded_of upload_ends answered
-  upload_ends e lt = so_moves at c Answer.Taken (next_bytes at place n) 2 0 (uploads e ∙ rw (lt-ltb n 1024 lt))
+  upload_ends_lem e lt = so_moves at c Answer.Taken (next_bytes at place n) 2 0 (uploads e ∙ rw (lt-ltb n 1024 lt))
 
   upload_goes_on : StartsAt at place → 1024 ≤ n → Uploads step_of at c place n
   unfolding uploaded_of upload_ends answered uploading_at
@@ -154,7 +154,7 @@ Rows_hold at c =
       close = close_done at c;
       close_missing = close_missing at c;
       upload-count = upload-count at c;
-      upload_ends = upload_ends at c;
+      upload_ends = upload_ends_lem at c;
       upload_goes_on = upload_goes_on at c;
       getstatus_sync = from_sync at c;
       getstatus_manifest = from_manifest at c;

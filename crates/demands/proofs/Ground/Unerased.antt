@@ -19,7 +19,7 @@ pub blank_or_first : (at : Site) (block len : ℕ) → Blank at block len ⊎ ((
 blank_or_first at block zero = inl (λ i lt. absurd (omega arith))
 blank_or_first at block (suc len) =
     let byte : ℕ → ℕ = λ i. get_or at.flash (start_of block + i) 0 in
-    ⊎_elim
+    ⊎_elim {A = Blank at block len}
     (λ all.
     elim (ℕ_discrete (byte len) 0xFF) [
       | yes e ↦ inl (λ i lt. elim (ℕ_discrete i len) [ yes same ↦ ap byte same ∙ e | no other ↦ all i (omega arith) ])

@@ -246,7 +246,8 @@ covers_after_calls :
     → Covers (noted_after step_of noted at calls) (after_calls step_of at calls).session
 unfolding noted_after after_calls
 covers_after_calls noted at [] h = h
-covers_after_calls noted at (c ∷ cs) h = covers_after_calls _ (after_call step_of at c) cs (covers_after_call noted at c h)
+covers_after_calls noted at (c ∷ cs) h =
+    covers_after_calls (note_of noted at.session c (called step_of at c)) (after_call step_of at c) cs (covers_after_call noted at c h)
 
 -- a start runs no download
 start_stops :
