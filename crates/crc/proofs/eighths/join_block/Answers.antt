@@ -16,7 +16,7 @@ loop-s-preserved c =
     let made = c.of_128-half.ensures in (
       omega arith,
       omega arith,
-      join_next _ _ c.loop-s.sum c.loop-s.s c.past.result (omega arith) (λ bits e. c.past.ensures bits (made ∙ e)) c.loop-s.invariant.2,
+      join_next _ _ c.loop-s.sum c.loop-s.s _ (omega arith) (rw (← made) assumption) c.loop-s.invariant.2,
     )
 
 pub returns : goal.returns
