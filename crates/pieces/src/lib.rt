@@ -9,6 +9,6 @@ pub fn put(bytes: &[u8], buffer: &mut [u8], at: usize) -> usize
     requires { at + length bytes.now ≤ length buffer.old }
     ensures { Laid buffer.old buffer.new at result bytes.now }
 {
-    bytes::copy(bytes, &mut buffer[at..]);
+    buffer[at..at + bytes.len()].copy_from_slice(bytes);
     at + bytes.len()
 }
