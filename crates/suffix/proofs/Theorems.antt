@@ -80,9 +80,9 @@ length-suffixed file p =
     omega (arith, length-append (file ++ front_of p) (sum_bytes (file ++ front_of p)), length-append file (front_of p))
 
 -- the file stands at its front, whatever lies behind
-front_of : (file : List ℕ) (p : Parts) (rest : List ℕ) → take (length file) (suffixed file p ++ rest) ≡ file
+file_in_front : (file : List ℕ) (p : Parts) (rest : List ℕ) → take (length file) (suffixed file p ++ rest) ≡ file
 unfolding suffixed
-front_of file p rest =
+file_in_front file p rest =
     let sum : List ℕ = sum_bytes (file ++ front_of p) in
     ap (take (length file))
     (append_assoc (file ++ front_of p) sum rest ∙ append_assoc file (front_of p) (sum ++ rest))
@@ -90,7 +90,7 @@ front_of file p rest =
 
 pub file_of : (bytes : List ℕ) (p : Parts) (n : ℕ) (f : FileWith bytes p n) → take n bytes ≡ f.file
 file_of bytes p n f =
-    ap₂ take (sym f.long) (f.made ∙ sym (append-nil (suffixed f.file p))) ∙ front_of f.file p []
+    ap₂ take (sym f.long) (f.made ∙ sym (append-nil (suffixed f.file p))) ∙ file_in_front f.file p []
 
 number_bytes : (n : ℕ) → Bytes (bytes2 n)
 number_bytes n zero = mod-lt n (omega arith)
@@ -189,7 +189,7 @@ read_written file p buffer n b f e =
       ap₂ (λ (k : ℕ) (l : List ℕ). read_of (take k l)) w.0 w.1
           ∙ ap read_of (take_at (suffixed file p) rest (size_with file) (length-suffixed file p))
           ∙ read-suffixed file p b f,
-      ap (take (length file)) w.1 ∙ front_of file p rest,
+      ap (take (length file)) w.1 ∙ file_in_front file p rest,
     )
 
 pub write_read : WriteRead read_of write_of
