@@ -5,8 +5,6 @@ use mathlib.Core.List.{List, [], ◌∷◌, ◌++◌}
 use mathlib.Core.Path.{◌≡◌, refl, sym, ap, ◌∙◌}
 use native.Mathlib.Omega.{arith}
 use native.Mathlib.Numerals.{add-one}
-use denote.Enum.Declared.{tag_of}
-use types.Run.{OneOf, miss}
 use lib.Dec.{leb}
 use lib.ListN.{length, get_or, drop, drop_of_length-le, length-append}
 use lib.Seq.{drop-cons}
@@ -18,7 +16,6 @@ use Rattle.pieces.proofs.Tests.{Tells, both, at_most, neither, either_way}
 use Rattle.bundle.specs.declared.Writing.{Writing}
 use Rattle.bundle.specs.declared.Writing.TheVariants.{Wrote, WrongCount, EmptyImage, NoRoom, WrongLengths}
 use Rattle.bundle.specs.Bundle.{most_images, can_count, head_size, has_empty, fits_in, total, size_of, entries_of, bundle_of, Writable, left, write_of, bytes_written}
-use Rattle.bundle.specs.contracts.Writing.{the_type}
 
 -- how many images a bundle may have
 pub count_tells : (n : ℕ) → Tells (can_count n) ((1 ≤ n) × (n ≤ most_images))
@@ -160,9 +157,9 @@ module _ (l images buffer : List ℕ) where
             ∙ ap (left (Wrote n)) (sym (laid_front buffer after n (bundle_of l images) laid)))
 
 -- what is not written has no bytes
-pub none_written : (w : Writing) → OneOf (1 ∷ 2 ∷ 3 ∷ 4 ∷ []) (tag_of the_type w) → 0 ≡ bytes_written w
+pub none_written : (w : Writing) → ((n : ℕ) → w ≡ Wrote n → ⊥) → 0 ≡ bytes_written w
 unfolding bytes_written
-none_written (Wrote n) h = absurd (miss (1 ∷ 2 ∷ 3 ∷ 4 ∷ []) 0 tt h)
+none_written (Wrote n) h = absurd (h n refl)
 none_written WrongCount h = refl
 none_written EmptyImage h = refl
 none_written NoRoom h = refl

@@ -1,11 +1,9 @@
 -- The reader's walk over the entries: what one entry does to it, and its end. Assumes nothing.
 use Prim.Native.Nat.{ℕ, suc, ◌+◌, ◌-◌, ◌≤◌, ◌<◌}
-use mathlib.Core.List.{List, [], ◌∷◌}
+use mathlib.Core.List.{List}
 use mathlib.Core.Path.{◌≡◌, refl, sym, ap, ◌∙◌}
 use mathlib.Core.Bool.{true, false, cond, not}
 use native.Mathlib.Omega.{arith}
-use denote.Enum.Declared.{tag_of}
-use types.Run.{OneOf, miss}
 use lib.Dec.{ltb}
 use lib.ListN.{length, take, drop}
 use borrow.Author.Tests.{lt-ltb, le-ltb, lt-leb, le-leb, eq-eqb, ne_eqb}
@@ -15,7 +13,6 @@ use Rattle.bundle.specs.declared.Part.{Part}
 use Rattle.bundle.specs.declared.Reading.{Reading}
 use Rattle.bundle.specs.declared.Reading.TheVariants.{Bundle, Short, Count, Table, Offset, Empty, Past, LeftOver}
 use Rattle.bundle.specs.Bundle.{entry_at, end_of, judged, read_from, can_count, head_size, read_of, images_in, part_of, image_of}
-use Rattle.bundle.specs.contracts.Reading.{the_type}
 
 -- an entry, where `left` more are to be read behind it
 module _ (bytes : List ℕ) (n m left k at : ℕ) (e : Entry) (more : m ≡ suc left) (is : e ≡ entry_at bytes k) where
@@ -72,9 +69,9 @@ module _ (bytes : List ℕ) (n : ℕ) (two : 2 ≤ length bytes) (is : n ≡ wor
   at_entries c h = counted ∙ rw (c, le-ltb (length bytes) (head_size n) h)
 
 -- what is refused holds no image
-pub none_in : (r : Reading) → OneOf (1 ∷ 2 ∷ 3 ∷ 4 ∷ 5 ∷ 6 ∷ 7 ∷ []) (tag_of the_type r) → 0 ≡ images_in r
+pub none_in : (r : Reading) → ((n : ℕ) → r ≡ Bundle n → ⊥) → 0 ≡ images_in r
 unfolding images_in
-none_in (Bundle n) h = absurd (miss (1 ∷ 2 ∷ 3 ∷ 4 ∷ 5 ∷ 6 ∷ 7 ∷ []) 0 tt h)
+none_in (Bundle n) h = absurd (h n refl)
 none_in Short h = refl
 none_in Count h = refl
 none_in Table h = refl

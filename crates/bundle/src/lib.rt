@@ -17,7 +17,7 @@ const MOST: usize = 32;
 // The first number past 32 bits.
 const PAST: u64 = 0x1_0000_0000;
 
-#[derive(Drop)]
+#[derive(Clone, Copy)]
 pub enum Reading {
     // A bundle of so many images.
     Bundle { count: usize },
@@ -33,7 +33,7 @@ pub enum Reading {
     LeftOver,
 }
 
-#[derive(Drop)]
+#[derive(Clone, Copy)]
 pub enum Writing {
     // So many bytes at the buffer's front.
     Wrote { count: usize },
@@ -45,7 +45,7 @@ pub enum Writing {
 }
 
 // What an entry says of its image.
-#[derive(Drop)]
+#[derive(Clone, Copy)]
 struct Entry {
     offset: u32,
     length: u32,
@@ -53,7 +53,7 @@ struct Entry {
 
 // A part of a file: so many bytes, from one of them on.
 #[repr(C)]
-#[derive(Drop)]
+#[derive(Clone, Copy)]
 pub struct Part {
     pub from: usize,
     pub length: usize,

@@ -17,14 +17,14 @@ const SIGNATURE: [u8; 3] = [0x55, 0x46, 0x44];
 
 // bcdDevice, idProduct and idVendor.
 #[repr(C)]
-#[derive(Drop)]
+#[derive(Clone, Copy)]
 pub struct Parts {
     pub device: u16,
     pub product: u16,
     pub vendor: u16,
 }
 
-#[derive(Drop)]
+#[derive(Clone, Copy)]
 pub enum Reading {
     // A file of so many bytes with its suffix.
     Suffixed { parts: Parts, length: usize },
@@ -36,7 +36,7 @@ pub enum Reading {
     Sum,
 }
 
-#[derive(Drop)]
+#[derive(Clone, Copy)]
 pub enum Writing {
     // So many bytes at the buffer's front.
     Wrote { count: usize },
