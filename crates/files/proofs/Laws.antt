@@ -1,10 +1,7 @@
 -- What a host hears of a refused reading and of a writing, and that nothing is lost on the way. Assumes nothing.
 use Prim.Native.Nat.{ℕ, zero, suc}
-use mathlib.Core.List.{List, [], ◌∷◌}
+use mathlib.Core.List.{List}
 use mathlib.Core.Path.{◌≡◌, refl, sym, ap, ◌∙◌}
-use denote.Enum.Declared.{tag_of}
-use types.Run.{OneOf, miss}
-use Rattle.suffix.specs.contracts.Reading.{the_type}
 use Rattle.suffix.specs.declared.Parts.{Parts}
 use Rattle.suffix.specs.declared.Reading.{Reading}
 use Rattle.suffix.specs.declared.Reading.TheVariants.{Suffixed, Short, Signature, Length, Version, Sum}
@@ -16,9 +13,9 @@ use Rattle.files.specs.declared.Written.{Written}
 use Rattle.files.specs.Files.{refused_by, told_read, told_written, at_host, suffix_written}
 
 -- every reading but the first is heard by its number
-pub heard : (r : Reading) → OneOf (1 ∷ 2 ∷ 3 ∷ 4 ∷ 5 ∷ []) (tag_of the_type r) → refused_by r ≡ told_read r
+pub heard : (r : Reading) → ((p : Parts) (n : ℕ) → r ≡ Suffixed p n → ⊥) → refused_by r ≡ told_read r
 unfolding told_read
-heard (Suffixed p n) h = absurd (miss (1 ∷ 2 ∷ 3 ∷ 4 ∷ 5 ∷ []) 0 tt h)
+heard (Suffixed p n) h = absurd (h p n refl)
 heard Short h = refl
 heard Signature h = refl
 heard Length h = refl

@@ -13,7 +13,7 @@ use suffix::{Parts, Reading, Writing};
 
 // A suffix that was read, with the bytes before it; or why it was refused, and zeros.
 #[repr(C)]
-#[derive(Drop)]
+#[derive(Clone, Copy)]
 pub struct SuffixFound {
     pub parts: Parts,
     pub refused: u16,
@@ -22,7 +22,7 @@ pub struct SuffixFound {
 
 // How many bytes were written; or why none were, and zero.
 #[repr(C)]
-#[derive(Drop)]
+#[derive(Clone, Copy)]
 pub struct Written {
     pub refused: u32,
     pub count: usize,
@@ -30,7 +30,7 @@ pub struct Written {
 
 // How many images a bundle has; or why it was refused, and zero.
 #[repr(C)]
-#[derive(Drop)]
+#[derive(Clone, Copy)]
 pub struct BundleFound {
     pub refused: u32,
     pub count: usize,
