@@ -1,6 +1,6 @@
 -- The theorems of the list. Assumes nothing.
-use Prim.Native.Nat.{ℕ, zero, suc, ◌+◌, ◌≤◌, ◌<◌}
-use mathlib.Core.List.{List, [], ◌∷◌, ◌++◌}
+use Prim.Native.Nat.{ℕ, zero, suc, ◌+◌, ◌≤◌}
+use mathlib.Core.List.{List, [], ◌++◌}
 use mathlib.Core.Path.{◌≡◌, refl, sym, ap, ap₂, ◌∙◌}
 use native.Mathlib.Decide.{dec_lt}
 use native.Mathlib.Numerals.{add-one}
@@ -10,8 +10,8 @@ use lib.Seq.{drop-cons}
 use borrow.Author.Tests.{eq-eqb, ne_eqb}
 use Rattle.pieces.specs.Claims.{Bytes}
 use Rattle.print.specs.Decimal.{decimal_of}
-use Rattle.bundle.specs.Bundle.{read_of, images_in, image_of}
-use Rattle.bundle.specs.Claims.{lengths_of, Legal, bundled, BundleWith}
+use Rattle.bundle.specs.Bundle.{read_of, images_in}
+use Rattle.bundle.specs.Claims.{lengths_of, Legal, bundled}
 use Rattle.bundle.proofs.Meaning.{accepted_good}
 use Rattle.bundle.proofs.Totals.{lengths_many}
 use Rattle.bundle.proofs.Made.{bundle_with}
