@@ -1,5 +1,5 @@
 -- The reader's walk over the entries: what one entry does to it, and its end. Assumes nothing.
-use Prim.Native.Nat.{ℕ, suc, ◌+◌, ◌-◌, ◌≤◌, ◌<◌}
+use Prim.Native.Nat.{ℕ, zero, suc, ◌+◌, ◌-◌, ◌≤◌, ◌<◌}
 use mathlib.Core.List.{List}
 use mathlib.Core.Path.{◌≡◌, refl, sym, ap, ◌∙◌}
 use mathlib.Core.Bool.{true, false, cond, not}
@@ -36,6 +36,13 @@ module _ (bytes : List ℕ) (n m left k at : ℕ) (e : Entry) (more : m ≡ suc 
     pub passed : stop ≤ length bytes → read_from bytes n m k at ≡ read_from bytes n left (k + 1) stop
     passed l =
         by_entry ∙ rw (eq-eqb e.offset at h, ne_eqb e.length 0 some, sym is_end, le-ltb (length bytes) stop l)
+
+-- an entry without bytes, found by what is read from it on
+pub empty_at :
+    (bytes : List ℕ) (n m k at : ℕ) → 0 < m → (entry_at bytes k).offset ≡ at → (entry_at bytes k).length ≡ 0
+    → read_from bytes n m k at ≡ Empty
+empty_at bytes n zero k at some h z = elim some [ ]
+empty_at bytes n (suc left) k at some h z = at_empty bytes n (suc left) left k at (entry_at bytes k) refl refl h z
 
 -- all entries are read
 pub at_left_over : (bytes : List ℕ) (n m k at : ℕ) → m ≡ 0 → at < length bytes → read_from bytes n m k at ≡ LeftOver

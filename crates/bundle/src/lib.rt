@@ -92,6 +92,7 @@ fn end(entry: Entry) -> u64
 }
 
 // The entries in their order, each held to where the image before it ended.
+#[tactic(auto, using(crate::proofs::Walk::empty_at))]
 fn read_entries(file: &[u8], count: usize) -> Reading
     requires { head_size count ≤ length file.now }
     ensures { result ≡ read_from file.now count count 0 (head_size count) }

@@ -12,6 +12,7 @@ ghost use Rattle.crc.specs.Crc.{crc_of};
 // The longest file that is listed.
 const MOST: usize = 65_536;
 
+#[tactic(auto, using(bundle::proofs::Meaning::few_images))]
 fn images(file: &[u8]) -> usize
     ensures { (result ≡ listed file.now) × (result ≤ most_images) }
 {

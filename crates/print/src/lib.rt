@@ -38,6 +38,7 @@ fn put_last_digit(n: u64, text: &mut [u8], at: usize) -> usize
 }
 
 // The decimal digits of a number, the most significant first, from a place on. The higher ones are those of the quotient by ten.
+#[tactic(auto, using(crate::proofs::Laws::decimal_one))]
 pub fn decimal(n: u64, text: &mut [u8], at: usize) -> usize
     requires { at + length (decimal_of n) ≤ length text.old }
     ensures { Laid text.old text.new at result (decimal_of n) }

@@ -116,6 +116,7 @@ fn read_at(file: &[u8], at: usize) -> Reading
 }
 
 // Any bytes are a file with its suffix, or are refused for the first thing that is wrong.
+#[tactic(auto, unfolding(crate::specs::Suffix::read_of))]
 pub fn read(file: &[u8]) -> Reading
     ensures { result ≡ read_of file.now }
 {

@@ -3,7 +3,7 @@ use Prim.Native.Nat.{ℕ, ◌+◌, ◌-◌}
 use mathlib.Core.Path.{◌≡◌, sym, ap₂, ◌∙◌}
 use native.Mathlib.Omega.{arith}
 use Rattle.bundle.specs.Bundle.{read_from}
-use Rattle.bundle.proofs.Walk.{at_offset, at_empty, at_past, passed, at_left_over, at_end}
+use Rattle.bundle.proofs.Walk.{at_offset, at_past, passed, at_left_over, at_end}
 use Rattle.bundle.proofs.read_entries.Goals as goal
 
 pub loop-k-init : goal.loop-k-init
@@ -17,19 +17,10 @@ returns-then-entry-at c =
     let left = c.args.count - (c.loop-k.k + 1) in
     sym (at_offset _ _ _ left _ _ _ (omega arith) c.entry_at-entry.ensures c.if-entry-at.true) ∙ c.loop-k.invariant.1
 
-pub returns-then-entry-eq0 : goal.returns-then-entry-eq0
-returns-then-entry-eq0 c =
-    let left = c.args.count - (c.loop-k.k + 1) in
-    sym (at_empty _ _ _ left _ _ _ (omega arith) c.entry_at-entry.ensures c.if-entry-at.false c.if-entry-eq0.true)
-    ∙ c.loop-k.invariant.1
-
-pub end-at-requires : goal.end-at-requires
-end-at-requires c = tt
-
 pub returns-then-size-at : goal.returns-then-size-at
 returns-then-size-at c =
     let left = c.args.count - (c.loop-k.k + 1) in
-    sym (at_past _ _ _ left _ _ _ (omega arith) c.entry_at-entry.ensures c.if-entry-at.false c.if-entry-eq0.false _
+    sym (at_past _ _ _ left _ _ _ (omega arith) c.entry_at-entry.ensures c.if-entry-at.false (λ z. omega (arith, z)) _
     c.end-at.ensures c.if-size-at.true)
     ∙ c.loop-k.invariant.1
 
@@ -38,7 +29,7 @@ loop-k-preserved c =
     let left = c.args.count - (c.loop-k.k + 1) in (
       omega arith,
       sym
-          (passed _ _ _ left _ _ _ (omega arith) c.entry_at-entry.ensures c.if-entry-at.false c.if-entry-eq0.false _
+          (passed _ _ _ left _ _ _ (omega arith) c.entry_at-entry.ensures c.if-entry-at.false (λ z. omega (arith, z)) _
           c.end-at.ensures c.if-size-at.false)
           ∙ c.loop-k.invariant.1,
     )
