@@ -1,8 +1,7 @@
 -- The invariant: the bytes that are left, summed from the running value, give the whole sum.
-use Prim.Native.Nat.{ℕ, ◌-◌, ◌≤◌}
+use Prim.Native.Nat.{ℕ}
 use mathlib.Core.Path.{◌≡◌, refl, ap, ◌∙◌}
 use native.Mathlib.Omega.{arith}
-use borrow.Author.Rules.{rules}
 use lib.ListN.{drop}
 use Rattle.crc.specs.Crc.{byte_step, crc_from}
 use Rattle.crc.proofs.Folds.{fold_next}

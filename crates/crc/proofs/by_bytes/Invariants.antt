@@ -1,11 +1,8 @@
 -- The invariant: the bytes that are left, summed from the running value, give the whole sum.
-use Prim.Native.Nat.{ℕ, ◌-◌, ◌≤◌}
-use mathlib.Core.Path.{◌≡◌, refl, ap, ◌∙◌}
-use native.Mathlib.Omega.{arith}
-use borrow.Author.Rules.{rules}
+use Prim.Native.Nat.{◌-◌, ◌≤◌}
+use mathlib.Core.Path.{◌≡◌}
 use lib.ListN.{drop}
-use Rattle.crc.specs.Crc.{byte_step, crc_from}
-use Rattle.crc.proofs.Folds.{fold_next}
+use Rattle.crc.specs.Crc.{crc_from}
 use Rattle.crc.proofs.by_bytes.Given as goal
 
 abbrev pub invariant-loop-i : goal.invariant-loop-i

@@ -1,7 +1,6 @@
 -- The table step's law, at the lent table.
 use mathlib.Core.Path.{sym}
 use native.Mathlib.Omega.{arith}
-use borrow.Author.Rules.{rules}
 use Rattle.crc.proofs.Laws.{table_step}
 use Rattle.crc.proofs.byte_step.Goals as goal
 

@@ -1,9 +1,6 @@
 -- The invariant: the blocks that are left, joined to the running value, give the sum of all.
-use Prim.Native.Nat.{◌≤◌, ◌-◌}
-use mathlib.Core.Path.{◌≡◌, refl, sym, ◌∙◌}
+use mathlib.Core.Path.{refl, sym, ◌∙◌}
 use native.Mathlib.Omega.{arith}
-use borrow.Author.Rules.{rules}
-use lib.ListN.{length, drop}
 use Rattle.crc.specs.Join.{joined, joined_from, joined_of}
 use Rattle.crc.proofs.Folds.{fold_next, fold_done}
 use Rattle.crc.proofs.join_all.Goals as goal

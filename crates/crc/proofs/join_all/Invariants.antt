@@ -1,11 +1,8 @@
 -- The invariant: the blocks that are left, joined to the running value, give the sum of all.
 use Prim.Native.Nat.{◌≤◌, ◌-◌}
-use mathlib.Core.Path.{◌≡◌, refl, sym, ◌∙◌}
-use native.Mathlib.Omega.{arith}
-use borrow.Author.Rules.{rules}
+use mathlib.Core.Path.{◌≡◌}
 use lib.ListN.{length, drop}
-use Rattle.crc.specs.Join.{joined, joined_from, joined_of}
-use Rattle.crc.proofs.Folds.{fold_next, fold_done}
+use Rattle.crc.specs.Join.{joined_from, joined_of}
 use Rattle.crc.proofs.join_all.Given as goal
 
 abbrev pub invariant-loop-i : goal.invariant-loop-i

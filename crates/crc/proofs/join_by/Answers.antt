@@ -1,6 +1,5 @@
 -- The difference from the start goes through the block's bits. Assumes nothing.
 use mathlib.Core.Path.{refl}
-use borrow.Author.Rules.{rules}
 use Rattle.crc.specs.Join.{block_bits, joined}
 use Rattle.crc.proofs.join_by.Goals as goal
 

@@ -1,9 +1,8 @@
 -- What is picked so far and what is left to pick give all that is picked (Joins).
-use Prim.Native.Nat.{◌-◌, ◌≤◌}
-use mathlib.Core.Path.{◌≡◌, sym, ◌∙◌}
+use mathlib.Core.Path.{sym, ◌∙◌}
 use native.Mathlib.Omega.{arith}
-use lib.Bits.{bit_xor, xor_zero_l}
-use Rattle.crc.proofs.Joins.{picked_from, picked, picked_bits, picked_next, picked_done}
+use lib.Bits.{xor_zero_l}
+use Rattle.crc.proofs.Joins.{picked, picked_bits, picked_next, picked_done}
 use Rattle.crc.proofs.past.Goals as goal
 
 pub loop-place-init : goal.loop-place-init

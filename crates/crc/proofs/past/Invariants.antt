@@ -1,9 +1,8 @@
 -- What is picked so far and what is left to pick give all that is picked (Joins).
 use Prim.Native.Nat.{◌-◌, ◌≤◌}
-use mathlib.Core.Path.{◌≡◌, sym, ◌∙◌}
-use native.Mathlib.Omega.{arith}
-use lib.Bits.{bit_xor, xor_zero_l}
-use Rattle.crc.proofs.Joins.{picked_from, picked, picked_bits, picked_next, picked_done}
+use mathlib.Core.Path.{◌≡◌}
+use lib.Bits.{bit_xor}
+use Rattle.crc.proofs.Joins.{picked_from, picked}
 use Rattle.crc.proofs.past.Given as goal
 
 abbrev pub invariant-loop-place : goal.invariant-loop-place

@@ -2,7 +2,6 @@
 use Prim.Native.Nat.{ℕ, ◌*◌}
 use mathlib.Core.Path.{ap, ◌∙◌}
 use Rattle.flash.specs.Flash.{erased, spliced, blank}
-use borrow.Author.Rules.{rules}
 use Rattle.flash.proofs.erase.Goals as goal
 
 pub returns : goal.returns

@@ -1,9 +1,8 @@
 -- What was passed over is erased, and eight bytes more are, wherever the number that they make is the greatest (Unerased).
 -- Assumes nothing.
-use Prim.Native.Nat.{◌+◌, ◌-◌}
+use Prim.Native.Nat.{◌+◌}
 use mathlib.Core.Path.{refl, sym, ◌∙◌}
 use native.Mathlib.Omega.{arith}
-use Rattle.flash.specs.Flash.{Passed}
 use Rattle.flash.proofs.Unerased.{passed_none, passed_eight}
 use Rattle.flash.proofs.past_eights.Goals as goal
 

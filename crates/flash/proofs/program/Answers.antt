@@ -1,9 +1,7 @@
 -- The loop keeps a write in progress (Writing): the first i bytes are in place. Assumes nothing.
-use Prim.Native.Nat.{◌-◌, ◌≤◌}
 use mathlib.Core.Path.{refl}
 use native.Mathlib.Omega.{arith}
-use lib.ListN.{length}
-use Rattle.flash.proofs.Writing.{Written, begun, turned, ended}
+use Rattle.flash.proofs.Writing.{begun, turned, ended}
 use Rattle.flash.proofs.program.Goals as goal
 
 pub loop-i-init : goal.loop-i-init
@@ -11,8 +9,7 @@ loop-i-init c = (omega arith, begun _ _ _)
 
 pub loop-i-preserved : goal.loop-i-preserved
 loop-i-preserved c =
-    let l = c.loop-i in
-    (
+    let l = c.loop-i in (
       omega arith,
       turned c.args.flash.now c.args.at.0 c.args.bytes.now (omega arith) _ _ l.i _ (omega arith) refl
           c.store.ensures

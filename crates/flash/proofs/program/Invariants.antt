@@ -1,9 +1,7 @@
 -- The loop keeps a write in progress (Writing): the first i bytes are in place. Assumes nothing.
 use Prim.Native.Nat.{◌-◌, ◌≤◌}
-use mathlib.Core.Path.{refl}
-use native.Mathlib.Omega.{arith}
 use lib.ListN.{length}
-use Rattle.flash.proofs.Writing.{Written, begun, turned, ended}
+use Rattle.flash.proofs.Writing.{Written}
 use Rattle.flash.proofs.program.Given as goal
 
 abbrev pub invariant-loop-i : goal.invariant-loop-i

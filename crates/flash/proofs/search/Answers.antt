@@ -2,7 +2,6 @@
 use Prim.Native.Nat.{ℕ}
 use mathlib.Core.Path.{ap, ◌∙◌}
 use Rattle.flash.specs.Flash.{searched, first_in, range}
-use borrow.Author.Rules.{rules}
 use Rattle.flash.proofs.search.Goals as goal
 
 pub returns : goal.returns

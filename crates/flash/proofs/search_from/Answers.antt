@@ -2,11 +2,9 @@
 -- label is left at the first byte that is not erased.
 -- Assumes nothing.
 use Prim.Native.Nat.{◌+◌, ◌-◌, ◌≤◌}
-use mathlib.Core.Path.{◌≡◌, refl, ◌∙◌}
-use mathlib.Core.Logic.{⊎_elim}
+use mathlib.Core.Path.{refl, ◌∙◌}
 use native.Mathlib.Omega.{arith}
-use Rattle.flash.specs.declared.Found.{Found}
-use Rattle.flash.proofs.Unerased.{Ahead, ahead_from, ahead_one, ahead_passed, ahead_found, ahead_none}
+use Rattle.flash.proofs.Unerased.{ahead_from, ahead_one, ahead_passed, ahead_found, ahead_none}
 use Rattle.flash.proofs.search_from.Goals.{else-end-stop, then-end-stop}
 use Rattle.flash.proofs.search_from.Goals as goal
 

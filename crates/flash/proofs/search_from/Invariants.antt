@@ -1,12 +1,10 @@
 -- Both loops keep that what is left of the range holds the answer (Unerased), also behind what is passed over eight bytes at a time; the
 -- label is left at the first byte that is not erased.
 -- Assumes nothing.
-use Prim.Native.Nat.{◌+◌, ◌-◌, ◌≤◌}
-use mathlib.Core.Path.{◌≡◌, refl, ◌∙◌}
-use mathlib.Core.Logic.{⊎_elim}
-use native.Mathlib.Omega.{arith}
+use Prim.Native.Nat.{◌-◌, ◌≤◌}
+use mathlib.Core.Path.{◌≡◌}
 use Rattle.flash.specs.declared.Found.{Found}
-use Rattle.flash.proofs.Unerased.{Ahead, ahead_from, ahead_one, ahead_passed, ahead_found, ahead_none}
+use Rattle.flash.proofs.Unerased.{Ahead}
 use Rattle.flash.proofs.search_from.Given as goal
 
 abbrev pub invariant-loop-at : goal.invariant-loop-at

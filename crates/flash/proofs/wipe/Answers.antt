@@ -1,7 +1,6 @@
 -- As `program`, with the bytes that an erase puts. Assumes nothing.
-use Prim.Native.Nat.{◌-◌, ◌≤◌}
 use native.Mathlib.Omega.{arith}
-use Rattle.flash.proofs.Writing.{Written, begun, turned, ended, blank_byte}
+use Rattle.flash.proofs.Writing.{begun, turned, ended, blank_byte}
 use Rattle.flash.proofs.Laws.{length-blank}
 use Rattle.flash.specs.Flash.{blank}
 use Rattle.flash.proofs.wipe.Goals as goal

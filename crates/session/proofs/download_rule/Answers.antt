@@ -1,5 +1,4 @@
 -- The rule's test of the phase is what `runs` answers.
-use borrow.Author.Rules.{rules}
 use Rattle.session.proofs.download_rule.Goals as goal
 
 pub returns : goal.returns

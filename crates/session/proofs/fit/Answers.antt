@@ -1,6 +1,5 @@
 -- Each rule is the one that its function answers, in the same order.
 use Rattle.session.specs.Rules.{fit_of}
-use borrow.Author.Rules.{rules}
 use Rattle.session.proofs.fit.Goals as goal
 
 pub returns : goal.returns

@@ -4,7 +4,6 @@ use mathlib.Core.Path.{◌≡◌}
 use native.Mathlib.Omega.{arith}
 use Rattle.session.specs.Session.{app_end, whole_upload}
 use Rattle.session.proofs.Laws.{split_facts, end_in_flash, end_after_start}
-use borrow.Author.Rules.{rules}
 use Rattle.session.proofs.fresh_talk.Goals as goal
 
 pub start-requires : goal.start-requires

@@ -1,5 +1,4 @@
 -- The rule is what `runs` and `lies_in` answer.
-use borrow.Author.Rules.{rules}
 use Rattle.session.proofs.place_rule.Goals as goal
 
 pub returns : goal.returns

@@ -3,7 +3,6 @@ use Prim.Native.Nat.{ℕ}
 use mathlib.Core.Path.{ap, ◌∙◌}
 use lib.Dec.{ltb}
 use lib.ListN.{length}
-use borrow.Author.Rules.{rules}
 use Rattle.session.specs.Codes.{states}
 use Rattle.session.proofs.Laws.{column_known}
 use Rattle.session.proofs.state_rule.Goals as goal

@@ -2,7 +2,6 @@
 use native.Mathlib.Nat.{zero-add}
 use borrow.Author.Tests.{eq-eqb, ne_eqb}
 use Rattle.session.specs.Session.{stream_length}
-use borrow.Author.Rules.{rules}
 use Rattle.session.proofs.stream_length.Goals as goal
 
 pub returns-then-up-eq-INFO_BYTES : goal.returns-then-up-eq-INFO_BYTES

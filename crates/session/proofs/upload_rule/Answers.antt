@@ -1,5 +1,4 @@
 -- The stream's end is what `stream_length` answers.
-use borrow.Author.Rules.{rules}
 use Rattle.session.proofs.upload_rule.Goals as goal
 
 pub returns : goal.returns

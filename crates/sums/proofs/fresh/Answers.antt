@@ -1,7 +1,6 @@
 -- Every application block anew over zeros, and the whole joined from them (Laws). Assumes nothing.
 use mathlib.Core.Path.{refl, ◌∙◌}
 use native.Mathlib.Omega.{arith}
-use borrow.Author.Rules.{rules}
 use lib.ListN.{replicate}
 use Rattle.sums.specs.Sum.{most_blocks}
 use Rattle.sums.proofs.Renewed.{refreshed-by}

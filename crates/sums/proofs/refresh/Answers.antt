@@ -1,5 +1,4 @@
 -- The block sums anew, and the whole joined from them (Renewed). Assumes nothing.
-use borrow.Author.Rules.{rules}
 use Rattle.sums.proofs.Renewed.{refreshed-by}
 use Rattle.sums.proofs.refresh.Goals as goal
 

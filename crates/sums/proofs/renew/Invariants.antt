@@ -1,9 +1,7 @@
 -- The loop keeps that making the rest anew gives what making all anew gives (Renewed). Assumes nothing.
 use Prim.Native.Nat.{◌-◌, ◌≤◌}
-use mathlib.Core.Path.{◌≡◌, refl, sym, ◌∙◌}
-use native.Mathlib.Omega.{arith}
+use mathlib.Core.Path.{◌≡◌}
 use Rattle.sums.specs.Sum.{renewed}
-use Rattle.sums.proofs.Renewed.{renewed_turn, renewed-done}
 use Rattle.sums.proofs.renew.Given as goal
 
 abbrev pub invariant-loop-k : goal.invariant-loop-k

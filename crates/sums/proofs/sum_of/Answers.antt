@@ -4,7 +4,6 @@ use mathlib.Core.Path.{ap, ◌∙◌}
 use Rattle.crc.specs.Crc.{crc_of}
 use Rattle.sums.specs.Sum.{block_sum}
 use Rattle.sums.proofs.Laws.{blocks_part}
-use borrow.Author.Rules.{rules}
 use Rattle.sums.proofs.sum_of.Goals as goal
 
 pub returns : goal.returns

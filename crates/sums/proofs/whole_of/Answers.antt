@@ -1,5 +1,4 @@
 -- The part of the list that is the application's. Assumes nothing.
-use borrow.Author.Rules.{rules}
 use Rattle.sums.specs.Sum.{joined_sum}
 use Rattle.sums.proofs.whole_of.Goals as goal
 

@@ -1,11 +1,9 @@
 -- Block after block. The loop keeps that the sums at hand, once they are joined, give the sum of all before the next block.
-use Prim.Native.Nat.{ℕ, ◌+◌, ◌-◌, ◌*◌, ◌≤◌}
-use mathlib.Core.Path.{◌≡◌, refl, sym, ◌∙◌}
+use Prim.Native.Nat.{◌+◌, ◌*◌}
+use mathlib.Core.Path.{refl, sym, ◌∙◌}
 use native.Mathlib.Omega.{arith}
-use lib.ListN.{length, drop}
 use Rattle.crc.specs.Crc.{byte_step, crc_from}
-use Rattle.crc.specs.Join.{past_halves}
-use Rattle.crc.specs.Eighths.{block_bytes, eighth_bits, JoinOf}
+use Rattle.crc.specs.Eighths.{block_bytes}
 use Rattle.crc.proofs.Folds.{fold_done}
 use Rattle.crc.proofs.Streams.{eighths_joined}
 use Rattle.crc.proofs.eighths.by_blocks.Goals as goal

@@ -1,6 +1,5 @@
 -- Size after size, each with its table.
 use native.Mathlib.Omega.{arith}
-use borrow.Author.Rules.{rules}
 use Rattle.crc.proofs.eighths.by_parts.Goals as goal
 
 pub parts-large-requires : goal.parts-large-requires

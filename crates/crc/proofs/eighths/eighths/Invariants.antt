@@ -1,9 +1,6 @@
 -- Turn after turn, four bytes more of each eighth (Streams).
 use Prim.Native.Nat.{◌-◌, ◌*◌, ◌≤◌}
-use native.Mathlib.Omega.{arith}
-use borrow.Author.Rules.{rules}
 use Rattle.crc.specs.Eighths.{Ahead}
-use Rattle.crc.proofs.Streams.{turn_ahead, ahead_none, ahead_all, ahead_more}
 use Rattle.crc.proofs.eighths.eighths.Given as goal
 
 abbrev pub invariant-loop-k : goal.invariant-loop-k

@@ -1,11 +1,8 @@
 -- The walk over the eight sums (Streams).
 use Prim.Native.Nat.{◌-◌, ◌≤◌}
-use mathlib.Core.Path.{refl, ◌∙◌}
-use native.Mathlib.Omega.{arith}
-use borrow.Author.Rules.{rules}
 use Rattle.crc.specs.Join.{past_halves}
 use Rattle.crc.specs.Eighths.{eighth_bits}
-use Rattle.crc.proofs.Streams.{JoinLeft, join_next, join-done}
+use Rattle.crc.proofs.Streams.{JoinLeft}
 use Rattle.crc.proofs.eighths.join_block.Given as goal
 
 abbrev pub invariant-loop-s : goal.invariant-loop-s

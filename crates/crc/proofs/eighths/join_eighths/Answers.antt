@@ -1,9 +1,7 @@
 -- The walk over the eight sums (Streams).
-use Prim.Native.Nat.{◌-◌, ◌≤◌}
 use mathlib.Core.Path.{refl}
 use native.Mathlib.Omega.{arith}
-use borrow.Author.Rules.{rules}
-use Rattle.crc.proofs.Streams.{JoinLeft, join_next, join-done}
+use Rattle.crc.proofs.Streams.{join_next, join-done}
 use Rattle.crc.proofs.eighths.join_eighths.Goals as goal
 
 pub loop-s-init : goal.loop-s-init

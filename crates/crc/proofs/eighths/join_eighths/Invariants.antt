@@ -1,9 +1,6 @@
 -- The walk over the eight sums (Streams).
 use Prim.Native.Nat.{◌-◌, ◌≤◌}
-use mathlib.Core.Path.{refl}
-use native.Mathlib.Omega.{arith}
-use borrow.Author.Rules.{rules}
-use Rattle.crc.proofs.Streams.{JoinLeft, join_next, join-done}
+use Rattle.crc.proofs.Streams.{JoinLeft}
 use Rattle.crc.proofs.eighths.join_eighths.Given as goal
 
 abbrev pub invariant-loop-s : goal.invariant-loop-s

@@ -1,11 +1,8 @@
 -- Part after part: the loop keeps that the rest of the bytes gives what all from the first place on gave.
-use Prim.Native.Nat.{◌+◌, ◌-◌, ◌*◌, ◌≤◌}
-use mathlib.Core.Path.{◌≡◌, refl, ap, ◌∙◌}
-use native.Mathlib.Omega.{arith}
+use Prim.Native.Nat.{◌-◌, ◌≤◌}
+use mathlib.Core.Path.{◌≡◌}
 use lib.ListN.{drop}
 use Rattle.crc.specs.Crc.{crc_from}
-use Rattle.crc.specs.Join.{past_halves}
-use Rattle.crc.proofs.Streams.{eighths_joined}
 use Rattle.crc.proofs.eighths.parts.Given as goal
 
 abbrev pub invariant-loop-at : goal.invariant-loop-at

@@ -1,10 +1,8 @@
 -- The loop keeps that putting bytes into the rest gives what putting them into all gives (Streams).
-use Prim.Native.Nat.{◌-◌, ◌≤◌}
-use mathlib.Core.Path.{◌≡◌, refl, sym, ◌∙◌, ap}
+use mathlib.Core.Path.{refl, sym, ◌∙◌, ap}
 use native.Mathlib.Omega.{arith}
 use lib.ListN.{get_or}
 use lib.Bits.{bit_xor}
-use Rattle.crc.specs.Eighths.{each_from, with_four}
 use Rattle.crc.proofs.Streams.{each_turn, each_done, place_inside}
 use Rattle.crc.proofs.eighths.put_in.Goals as goal
 

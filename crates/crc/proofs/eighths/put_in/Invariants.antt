@@ -1,11 +1,7 @@
 -- The loop keeps that putting bytes into the rest gives what putting them into all gives (Streams).
 use Prim.Native.Nat.{◌-◌, ◌≤◌}
-use mathlib.Core.Path.{◌≡◌, refl, sym, ◌∙◌, ap}
-use native.Mathlib.Omega.{arith}
-use lib.ListN.{get_or}
-use lib.Bits.{bit_xor}
+use mathlib.Core.Path.{◌≡◌}
 use Rattle.crc.specs.Eighths.{each_from, with_four}
-use Rattle.crc.proofs.Streams.{each_turn, each_done, place_inside}
 use Rattle.crc.proofs.eighths.put_in.Given as goal
 
 abbrev pub invariant-loop-s : goal.invariant-loop-s

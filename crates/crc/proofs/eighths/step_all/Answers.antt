@@ -1,9 +1,7 @@
 -- The loop keeps that stepping the rest gives what stepping all gives (Streams).
-use Prim.Native.Nat.{◌-◌, ◌≤◌}
-use mathlib.Core.Path.{◌≡◌, refl, sym, ◌∙◌}
+use mathlib.Core.Path.{refl, sym, ◌∙◌}
 use native.Mathlib.Omega.{arith}
-use borrow.Author.Rules.{rules}
-use Rattle.crc.specs.Eighths.{each_from, one_byte_on}
+use Rattle.crc.specs.Eighths.{one_byte_on}
 use Rattle.crc.proofs.Streams.{each_turn, each_done}
 use Rattle.crc.proofs.eighths.step_all.Goals as goal
 

@@ -1,10 +1,7 @@
 -- The loop keeps that stepping the rest gives what stepping all gives (Streams).
 use Prim.Native.Nat.{◌-◌, ◌≤◌}
-use mathlib.Core.Path.{◌≡◌, refl, sym, ◌∙◌}
-use native.Mathlib.Omega.{arith}
-use borrow.Author.Rules.{rules}
+use mathlib.Core.Path.{◌≡◌}
 use Rattle.crc.specs.Eighths.{each_from, one_byte_on}
-use Rattle.crc.proofs.Streams.{each_turn, each_done}
 use Rattle.crc.proofs.eighths.step_all.Given as goal
 
 abbrev pub invariant-loop-s : goal.invariant-loop-s

@@ -3,7 +3,6 @@ use mathlib.Core.Path.{ap}
 use Rattle.session.specs.declared.Talk.{Talk}
 use Rattle.session.specs.declared.Session.{Session}
 use Rattle.session.specs.Session.{board_of, fresh_of}
-use borrow.Author.Rules.{rules}
 use Rattle.session.proofs.Session.fresh.Goals as goal
 
 pub returns : goal.returns
