@@ -3,7 +3,6 @@ use mathlib.Core.Path.{ap}
 use Rattle.answers.specs.Answers.{outcome}
 use Rattle.answers.specs.declared.Answer.{Answer}
 use Rattle.answers.specs.Moves.{fault_of}
-use borrow.Author.Rules.{rules}
 use Rattle.answers.proofs.faulted.Goals as goal
 
 pub returns : goal.returns

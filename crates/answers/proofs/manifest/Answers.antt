@@ -1,5 +1,4 @@
 -- `moved` to that state, with no download. Assumes nothing.
-use borrow.Author.Rules.{rules}
 use Rattle.answers.proofs.manifest.Goals as goal
 
 pub returns : goal.returns

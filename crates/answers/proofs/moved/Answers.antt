@@ -3,7 +3,6 @@ use mathlib.Core.Path.{ap}
 use Rattle.session.specs.Session.{phase_of, with_talk}
 use Rattle.session.specs.declared.Talk.{Talk}
 use Rattle.answers.specs.Moves.{moved_to}
-use borrow.Author.Rules.{rules}
 use Rattle.answers.proofs.moved.Goals as goal
 
 pub returns : goal.returns

@@ -1,7 +1,6 @@
 -- By whether the state is error. Assumes nothing.
 use Rattle.answers.specs.Moves.{stall_of}
 use borrow.Author.Tests.{eq-eqb, ne_eqb}
-use borrow.Author.Rules.{rules}
 use Rattle.answers.proofs.stalled.Goals as goal
 
 pub returns-then-s-eq-ERROR : goal.returns-then-s-eq-ERROR

@@ -5,7 +5,6 @@ use Rattle.session.specs.declared.Talk.{Talk}
 use Rattle.answers.specs.Answers.{outcome}
 use Rattle.answers.specs.declared.Answer.{Answer}
 use Rattle.answers.specs.Moves.{unfit_of}
-use borrow.Author.Rules.{rules}
 use Rattle.answers.proofs.unfit.Goals as goal
 
 pub returns : goal.returns

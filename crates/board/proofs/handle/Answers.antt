@@ -1,7 +1,6 @@
 -- By what `step` leaves, whose answer `number` turns into its number. Assumes nothing.
 use mathlib.Core.Path.{ap}
 use Rattle.board.specs.Board.{at_board_by, requested_of}
-use borrow.Author.Rules.{rules}
 use Rattle.board.proofs.handle.Goals as goal
 
 pub returns : goal.returns

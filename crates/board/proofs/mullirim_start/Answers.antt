@@ -1,7 +1,6 @@
 -- By the outcome of `start`, whose answer `number` turns into its number. Assumes nothing.
 use mathlib.Core.Path.{ap}
 use Rattle.board.specs.Board.{started_by, started_of}
-use borrow.Author.Rules.{rules}
 use Rattle.board.proofs.mullirim_start.Goals as goal
 
 pub returns : goal.returns

@@ -5,7 +5,6 @@ use Rattle.session.specs.Session.{with_up, up_of, no_download}
 use Rattle.command.specs.Download.{bin_of}
 use Rattle.answers.specs.Moves.{moved_to, taken_of, to_sync}
 use Rattle.answers.proofs.Laws.{taken_at}
-use borrow.Author.Rules.{rules}
 use Rattle.command.proofs.bin.Goals as goal
 
 pub returns : goal.returns

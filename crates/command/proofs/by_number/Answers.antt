@@ -8,7 +8,6 @@ use Rattle.jobs.specs.Job.{plan_of}
 use Rattle.jobs.proofs.Laws.{only_at}
 use Rattle.command.proofs.Laws.{last_command}
 use Rattle.command.specs.Download.{by_number, prog_of, read_of, check_of, erase_of}
-use borrow.Author.Rules.{rules}
 use Rattle.command.proofs.by_number.Goals as goal
 
 pub returns-in-1 : goal.returns-in-1

@@ -9,7 +9,6 @@ use Rattle.jobs.proofs.Laws.{only_at}
 use Rattle.jobs.proofs.Picks.{yes_is, no_is, refused, passed}
 use Rattle.command.specs.Download.{if_erased, check_of}
 use Rattle.command.proofs.Laws.{ready-range, erased_sync}
-use borrow.Author.Rules.{rules}
 use Rattle.command.proofs.check.Goals as goal
 
 pub returns-then-not-in_application : goal.returns-then-not-in_application

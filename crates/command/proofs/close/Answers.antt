@@ -3,7 +3,6 @@ use borrow.Author.Tests.{eq-eqb, ne_eqb}
 use Rattle.jobs.proofs.Picks.{yes_is, no_is}
 use Rattle.command.specs.Download.{closed_of}
 use Rattle.answers.proofs.Laws.{taken_at}
-use borrow.Author.Rules.{rules}
 use Rattle.command.proofs.close.Goals as goal
 
 pub returns-then-s-ne0 : goal.returns-then-s-ne0

@@ -4,7 +4,6 @@ use mathlib.Core.Path.{ap}
 use Rattle.jobs.proofs.Picks.{yes_is, no_is, refused, passed}
 use Rattle.command.proofs.Laws.{long_enough}
 use Rattle.command.specs.Download.{command_of}
-use borrow.Author.Rules.{rules}
 use Rattle.command.proofs.command.Goals as goal
 
 pub returns-then-not-well_formed : goal.returns-then-not-well_formed

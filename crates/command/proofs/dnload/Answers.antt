@@ -3,7 +3,6 @@ use mathlib.Core.Logic.{⊎_elim}
 use borrow.Author.Tests.{eq-eqb, ne_eqb}
 use Rattle.jobs.proofs.Picks.{yes_is, no_is}
 use Rattle.command.specs.Download.{dnload_of}
-use borrow.Author.Rules.{rules}
 use Rattle.command.proofs.dnload.Goals as goal
 
 pub piece-requires : goal.piece-requires

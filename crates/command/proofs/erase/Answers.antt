@@ -7,7 +7,6 @@ use Rattle.answers.proofs.Laws.{taken_at}
 use Rattle.jobs.specs.Job.{plan_of, wipe_of}
 use Rattle.jobs.proofs.Picks.{yes_is, no_is, refused, passed}
 use Rattle.command.specs.Download.{erase_of}
-use borrow.Author.Rules.{rules}
 use Rattle.command.proofs.erase.Goals as goal
 
 pub returns-then-not-in_application : goal.returns-then-not-in_application

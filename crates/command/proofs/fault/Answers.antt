@@ -1,6 +1,5 @@
 -- The fault, over a flash that stays. Assumes nothing.
 use Rattle.jobs.proofs.Laws.{only_at}
-use borrow.Author.Rules.{rules}
 use Rattle.command.proofs.fault.Goals as goal
 
 pub returns : goal.returns

@@ -8,7 +8,6 @@ use Rattle.jobs.specs.Job.{Plan, planned}
 use Rattle.jobs.proofs.Picks.{yes_is, no_is, refused, passed}
 use Rattle.command.specs.Download.{fault_plan, telling}
 use Rattle.command.proofs.Laws.{told-erased, told_number, telling_fault}
-use borrow.Author.Rules.{rules}
 use Rattle.command.proofs.if_erased.Goals as goal
 
 pub returns-then-not-nothing : goal.returns-then-not-nothing

@@ -2,7 +2,6 @@
 use Rattle.command.specs.Download.{info_of}
 use Rattle.answers.specs.Moves.{moved_to}
 use Rattle.answers.proofs.Laws.{taken_at}
-use borrow.Author.Rules.{rules}
 use Rattle.command.proofs.info.Goals as goal
 
 pub returns : goal.returns

@@ -6,7 +6,6 @@ use Rattle.session.proofs.Laws.{fit_facts, fit_kept, split_facts, end_in_flash}
 use Rattle.jobs.proofs.Laws.{only_at}
 use Rattle.jobs.proofs.Picks.{yes_is, no_is}
 use Rattle.command.specs.Download.{piece_of}
-use borrow.Author.Rules.{rules}
 use Rattle.command.proofs.piece.Goals as goal
 
 pub returns-then-n-eq0 : goal.returns-then-n-eq0

@@ -7,7 +7,6 @@ use borrow.Author.Tests.{le-leb, lt-leb}
 use Rattle.jobs.proofs.Picks.{yes_is, no_is, refused, passed}
 use Rattle.command.specs.Download.{wrote_of, if_erased, prog_of}
 use Rattle.command.proofs.Laws.{ready-range, erased_wrote}
-use borrow.Author.Rules.{rules}
 use Rattle.command.proofs.prog.Goals as goal
 
 pub returns-then-not-in_application : goal.returns-then-not-in_application

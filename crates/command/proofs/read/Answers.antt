@@ -5,7 +5,6 @@ use Rattle.jobs.proofs.Picks.{yes_is, no_is, refused, passed}
 use Rattle.command.specs.Download.{read_of}
 use Rattle.answers.specs.Moves.{moved_to}
 use Rattle.answers.proofs.Laws.{taken_at}
-use borrow.Author.Rules.{rules}
 use Rattle.command.proofs.read.Goals as goal
 
 pub returns-then-not-in_application : goal.returns-then-not-in_application

@@ -1,7 +1,6 @@
 -- A short request is none; otherwise the code is the definition. Assumes nothing.
 use Rattle.command.specs.Download.{well_formed}
 use borrow.Author.Tests.{le-leb, lt-leb}
-use borrow.Author.Rules.{rules}
 use Rattle.command.proofs.well_formed.Goals as goal
 
 pub returns-then-d-lt8 : goal.returns-then-d-lt8

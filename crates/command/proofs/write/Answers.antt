@@ -4,7 +4,6 @@ use Rattle.answers.specs.declared.Outcome.{Outcome}
 use Rattle.answers.proofs.Laws.{taken_at}
 use Rattle.jobs.specs.Job.{plan_of, bytes_to}
 use Rattle.command.specs.Download.{wrote_of}
-use borrow.Author.Rules.{rules}
 use Rattle.command.proofs.write.Goals as goal
 
 pub returns : goal.returns

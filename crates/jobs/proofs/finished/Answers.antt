@@ -2,7 +2,6 @@
 use mathlib.Core.Path.{ap}
 use Rattle.answers.specs.Answers.{heardAt}
 use Rattle.jobs.specs.Job.{summed}
-use borrow.Author.Rules.{rules}
 use Rattle.jobs.proofs.finished.Goals as goal
 
 pub returns : goal.returns

@@ -5,7 +5,6 @@ use borrow.Author.Tests.{eq-eqb, ne_eqb}
 use Rattle.jobs.proofs.Picks.{yes_is, no_is}
 use Rattle.jobs.proofs.Laws.{same_refresh}
 use Rattle.jobs.specs.Job.{sums_after}
-use borrow.Author.Rules.{rules}
 use Rattle.jobs.proofs.sums_after.Goals as goal
 
 pub returns-then-n-eq0 : goal.returns-then-n-eq0

@@ -2,7 +2,6 @@
 use Rattle.session.specs.Session.{allowed_split}
 use Rattle.loader.specs.Step.{startable}
 use Rattle.loader.proofs.Laws.{same_behind, split_ends}
-use borrow.Author.Rules.{rules}
 use Rattle.loader.proofs.allowed_start.Goals as goal
 
 pub returns : goal.returns

@@ -9,7 +9,6 @@ use Rattle.request.proofs.Laws.{upload-length}
 use Rattle.jobs.proofs.Picks.{yes_is, no_is, refused, passed}
 use Rattle.loader.specs.Step.{served, decided_of}
 use Rattle.loader.proofs.Laws.{ready_fit, ready_room, allowed_read, only_told}
-use borrow.Author.Rules.{rules}
 use Rattle.loader.proofs.decide.Goals as goal
 
 pub returns-then-not-is_ready : goal.returns-then-not-is_ready

@@ -6,7 +6,6 @@ use Rattle.request.specs.Request.{data_asked}
 use Rattle.session.specs.Rules.{fit_of}
 use Rattle.loader.specs.Step.{ready}
 use Rattle.loader.proofs.Laws.{same_before, fit_ends}
-use borrow.Author.Rules.{rules}
 use Rattle.loader.proofs.is_ready.Goals as goal
 
 pub returns : goal.returns

@@ -6,7 +6,6 @@ use Rattle.answers.proofs.Laws.{taken_at}
 use Rattle.jobs.specs.Job.{Plan}
 use Rattle.loader.specs.Step.{decided, served}
 use Rattle.loader.proofs.Laws.{allowed_loading, as_told, only_told, answer_told}
-use borrow.Author.Rules.{rules}
 use Rattle.loader.proofs.serve.Goals as goal
 
 pub dnload-requires : goal.dnload-requires

@@ -9,7 +9,6 @@ use Rattle.answers.specs.declared.Answer.{Answer}
 use Rattle.jobs.proofs.Picks.{yes_is, no_is, refused, passed}
 use Rattle.loader.specs.Step.{start_outcome, fresh_start}
 use Rattle.loader.proofs.Laws.{start_ground, start-split}
-use borrow.Author.Rules.{rules}
 use Rattle.loader.proofs.start.Goals as goal
 
 pub returns-then-not-allowed_start : goal.returns-then-not-allowed_start

@@ -2,7 +2,6 @@
 use Rattle.jobs.proofs.Laws.{can_reaches, can_still}
 use Rattle.loader.specs.Step.{step_of}
 use Rattle.loader.proofs.Laws.{decision_can, so_settled}
-use borrow.Author.Rules.{rules}
 use Rattle.loader.proofs.step.Goals as goal
 
 pub carry_out-requires : goal.carry_out-requires

@@ -1,6 +1,5 @@
 -- The table leaves one case: a DNLOAD of no bytes in state idle.
 use Rattle.request.proofs.Laws.{not_empty}
-use borrow.Author.Rules.{rules}
 use Rattle.request.proofs.allowed.Goals as goal
 
 pub returns : goal.returns

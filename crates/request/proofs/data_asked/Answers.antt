@@ -2,7 +2,6 @@
 use Rattle.request.specs.declared.Setup.{Setup}
 use mathlib.Core.Path.{ap}
 use Rattle.request.specs.Request.{data_asked}
-use borrow.Author.Rules.{rules}
 use Rattle.request.proofs.data_asked.Goals as goal
 
 pub returns-then-s : goal.returns-then-s

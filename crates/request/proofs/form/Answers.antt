@@ -1,7 +1,6 @@
 -- Each way out is one pick of `form_of`, led to by what `has_form` and `is_query` answered.
 use Rattle.request.proofs.Laws.{told-yes, told_no}
 use Rattle.request.specs.Request.{form_of}
-use borrow.Author.Rules.{rules}
 use Rattle.request.proofs.form.Goals as goal
 
 pub returns-then-has_form : goal.returns-then-has_form

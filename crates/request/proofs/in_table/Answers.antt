@@ -1,7 +1,6 @@
 -- The code's table is the computed one, whose entries are tested once in the laws.
 use Rattle.request.proofs.Laws.{allowed_table, past_rows, past_columns, in_table}
 use Rattle.request.specs.Request.{allowed_of}
-use borrow.Author.Rules.{rules}
 use Rattle.request.proofs.in_table.Goals as goal
 
 pub returns-then-i-ge7 : goal.returns-then-i-ge7

@@ -1,5 +1,4 @@
 -- The form is the one that `has_form` answers for the query's row.
-use borrow.Author.Rules.{rules}
 use Rattle.request.proofs.is_query.Goals as goal
 
 pub returns : goal.returns

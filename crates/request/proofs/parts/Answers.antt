@@ -1,7 +1,6 @@
 -- Each part is the byte or the word that the setup has at its place.
 use borrow.Author.Tests.{eq-eqb, ne_eqb}
 use Rattle.request.specs.Request.{setup_of}
-use borrow.Author.Rules.{rules}
 use Rattle.request.proofs.parts.Goals as goal
 
 pub returns-then-setup-ne8 : goal.returns-then-setup-ne8

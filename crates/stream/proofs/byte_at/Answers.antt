@@ -2,7 +2,6 @@
 use mathlib.Core.Path.{sym}
 use lib.ListN.{get_or-append}
 use Rattle.stream.proofs.Giving.{past_head}
-use borrow.Author.Rules.{rules}
 use Rattle.stream.proofs.byte_at.Goals as goal
 
 pub returns-then-k-head : goal.returns-then-k-head

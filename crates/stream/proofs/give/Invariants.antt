@@ -1,10 +1,8 @@
 -- The loop keeps an answer in progress (Giving): the first i bytes are at the front of the reply. Assumes nothing.
 use Prim.Native.Nat.{◌-◌, ◌≤◌}
-use mathlib.Core.Path.{sym, ◌∙◌}
 use mathlib.Core.List.{◌++◌}
-use native.Mathlib.Omega.{arith}
 use lib.ListN.{take, drop}
-use Rattle.stream.proofs.Giving.{Giving, parts_length, part_byte, begun, turned, ended}
+use Rattle.stream.proofs.Giving.{Giving}
 use Rattle.stream.proofs.give.Given as goal
 
 abbrev pub invariant-loop-i : goal.invariant-loop-i

@@ -4,7 +4,6 @@ use mathlib.Core.Path.{ap₂}
 use mathlib.Core.List.{List, [], ◌∷◌, ◌++◌}
 use Rattle.request.specs.Commands.{prog}
 use Rattle.stream.specs.Stream.{header_of}
-use borrow.Author.Rules.{rules}
 use Rattle.stream.proofs.header.Goals as goal
 
 pub returns : goal.returns

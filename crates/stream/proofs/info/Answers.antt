@@ -5,7 +5,6 @@ use Prim.Native.Nat.{ℕ}
 use Rattle.flash.specs.Flash.{start_of}
 use Rattle.numbers.specs.Numbers.{bytes4}
 use Rattle.stream.specs.Stream.{info_stream}
-use borrow.Author.Rules.{rules}
 use Rattle.stream.proofs.info.Goals as goal
 
 join : {a b x y : List ℕ} → a ≡ b → x ≡ y → a ++ x ≡ b ++ y

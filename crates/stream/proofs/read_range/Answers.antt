@@ -1,7 +1,6 @@
 -- The part begins where the first block starts and is as long as the range. Assumes nothing.
 use mathlib.Core.Path.{refl}
 use Rattle.stream.proofs.Giving.{part_range}
-use borrow.Author.Rules.{rules}
 use Rattle.stream.proofs.read_range.Goals as goal
 
 pub returns : goal.returns

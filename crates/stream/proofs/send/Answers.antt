@@ -5,7 +5,6 @@ use Rattle.session.proofs.Laws.{info_length_lem, prefix_most}
 use Rattle.stream.specs.Stream.{next_of}
 use Rattle.stream.proofs.Giving.{sent_from}
 use Rattle.stream.proofs.Laws.{info_chosen, flash_chosen, flash_chosen_length, end_near, range_within}
-use borrow.Author.Rules.{rules}
 use Rattle.stream.proofs.send.Goals as goal
 
 pub send_info-requires : goal.send_info-requires

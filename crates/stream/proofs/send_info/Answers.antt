@@ -2,7 +2,6 @@
 use mathlib.Core.Path.{◌∙◌}
 use mathlib.Core.List.{append-nil}
 use Rattle.stream.proofs.Giving.{sent_from}
-use borrow.Author.Rules.{rules}
 use Rattle.stream.proofs.send_info.Goals as goal
 
 pub returns : goal.returns

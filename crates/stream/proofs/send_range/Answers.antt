@@ -4,7 +4,6 @@ use mathlib.Core.List.{◌++◌}
 use native.Mathlib.Omega.{arith}
 use Rattle.stream.proofs.Giving.{sent_from}
 use Rattle.stream.proofs.Laws.{parts_sum, prefix_on, prefix_off}
-use borrow.Author.Rules.{rules}
 use Rattle.stream.proofs.send_range.Goals as goal
 
 pub give-requires : goal.give-requires

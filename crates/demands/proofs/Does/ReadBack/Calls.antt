@@ -18,7 +18,7 @@ use Rattle.command.specs.Ready.{Ready}
 use Rattle.command.specs.Download.{dnload_of}
 use Rattle.loader.specs.Reply.{getstatus_of}
 use Rattle.loader.specs.Upload.{upload_of}
-use Rattle.loader.specs.Step.{ready, served, step_of, with_reply, decided_of, settled, Decided}
+use Rattle.loader.specs.Step.{ready, served, step_of, decided_of, settled, Decided}
 use Rattle.demands.specs.Calls.{Call, Site, called, after_call}
 use Rattle.demands.proofs.Ground.Prepared.{prepared_from, prepared_ready}
 use Rattle.demands.specs.Does.ReadBack.{Host, asks, replied, was_taken, ran_after, run}

@@ -27,7 +27,7 @@ use Rattle.command.proofs.Laws.{long_enough}
 use Rattle.loader.specs.Reply.{answered, polled, getstatus_of}
 use Rattle.loader.specs.Step.{step_of, settled}
 use Rattle.demands.specs.Calls.{called}
-use Rattle.demands.specs.Does.ReadBack.{Host, ends, asks, run, dnload, poll, read_command, erase_command}
+use Rattle.demands.specs.Does.ReadBack.{Host, asks, run, dnload, poll, read_command, erase_command}
 use Rattle.demands.proofs.Ground.Finished.{finished}
 use Rattle.demands.proofs.Does.ReadBack.Calls.{site_of, on_taken, is_yes, dnload-called, poll-called}
 use Rattle.demands.proofs.Does.ReadBack.Sessions.{in_state_lem, at_idle, at_command}

@@ -1,6 +1,5 @@
 -- Those bytes, and the talk as it is. Assumes nothing.
 use Rattle.loader.specs.Reply.{getstate_of}
-use borrow.Author.Rules.{rules}
 use Rattle.loader.proofs.reply.getstate.Goals as goal
 
 pub returns : goal.returns

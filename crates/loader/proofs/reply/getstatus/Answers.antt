@@ -5,7 +5,6 @@ use mathlib.Core.Path.{ap, ap₂, ◌∙◌}
 use Rattle.numbers.specs.Numbers.{bytes3}
 use Rattle.loader.proofs.Laws.{answered_at}
 use Rattle.loader.specs.Reply.{answered, polled, getstatus_of}
-use borrow.Author.Rules.{rules}
 use Rattle.loader.proofs.reply.getstatus.Goals as goal
 
 pub returns : goal.returns

@@ -4,7 +4,6 @@ use mathlib.Core.Path.{ap₂}
 use Rattle.session.specs.Session.{with_phase, with_talk, phase_of}
 use Rattle.session.specs.declared.Talk.{Talk}
 use Rattle.loader.specs.Reply.{polled}
-use borrow.Author.Rules.{rules}
 use Rattle.loader.proofs.reply.poll.Goals as goal
 
 pub returns : goal.returns

@@ -2,7 +2,6 @@
 use mathlib.Core.Path.{ap}
 use Rattle.session.specs.Session.{with_talk}
 use Rattle.loader.proofs.Laws.{answered_at}
-use borrow.Author.Rules.{rules}
 use Rattle.loader.proofs.reply.stays.Goals as goal
 
 pub returns : goal.returns

@@ -11,7 +11,6 @@ use Rattle.loader.proofs.Laws.{answered-by, place_in_stream, answer_near}
 use Rattle.session.proofs.Laws.{fit_facts}
 use Rattle.stream.proofs.Laws.{fit_sendable}
 use Rattle.loader.specs.Upload.{upload_of, answer_of, uploaded_of}
-use borrow.Author.Rules.{rules}
 use Rattle.loader.proofs.upload.upload.Goals as goal
 
 pub send-n-requires : goal.send-n-requires

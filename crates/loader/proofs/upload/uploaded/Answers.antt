@@ -3,7 +3,6 @@ use mathlib.Core.Path.{ap, ◌∙◌}
 use Prim.Native.Nat.{ℕ, ◌+◌}
 use Rattle.jobs.proofs.Picks.{yes_is, no_is, told}
 use Rattle.loader.specs.Upload.{uploaded_of, uploading_at}
-use borrow.Author.Rules.{rules}
 use Rattle.loader.proofs.upload.uploaded.Goals as goal
 
 pub returns-then-ends : goal.returns-then-ends

@@ -5,7 +5,6 @@ use Rattle.session.specs.Session.{phase_of, up_of, with_phase, with_up}
 use Rattle.session.specs.declared.Session.{Session}
 use Rattle.answers.specs.Moves.{moved_to}
 use Rattle.loader.specs.Upload.{uploading_at}
-use borrow.Author.Rules.{rules}
 use Rattle.loader.proofs.upload.uploading.Goals as goal
 
 pub returns : goal.returns
