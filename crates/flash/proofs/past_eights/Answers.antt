@@ -14,13 +14,13 @@ returns-then-eight c = c.loop-at.invariant
 
 pub returns-then-eight-2 : goal.returns-then-eight-2
 returns-then-eight-2 c =
-    let byte = c.shared_slice_known-1.given in
+    let byte = c.type_inv.flash in
     let all = sym c.eight.ensures ∙ c.if-eight.false in
     passed_eight _ (λ k. omega (arith, byte k)) _ _ c.loop-at.at _ (omega arith) (omega arith) (omega arith) all c.loop-at.invariant
 
 pub loop-at-preserved : goal.loop-at-preserved
 loop-at-preserved c =
-    let byte = c.shared_slice_known-1.given in
+    let byte = c.type_inv.flash in
     let all = sym c.eight.ensures ∙ c.if-eight.false in
     let more = sym c.eight-in-loop-at.ensures ∙ c.if-eight-2.false in
     let at = c.loop-at.at in
@@ -37,6 +37,6 @@ returns-then-eight-3 c = c.loop-at.invariant
 
 pub returns : goal.returns
 returns c =
-    let byte = c.shared_slice_known-1.given in
+    let byte = c.type_inv.flash in
     let all = sym c.eight-2.ensures ∙ c.if-eight-3.false in
     passed_eight _ (λ k. omega (arith, byte k)) _ _ c.loop-at.at _ (omega arith) (omega arith) (omega arith) all c.loop-at.invariant

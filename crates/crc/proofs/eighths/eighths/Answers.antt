@@ -10,7 +10,7 @@ pub loop-k-preserved : goal.loop-k-preserved
 loop-k-preserved c = (
   omega arith,
   ahead_more (omega arith) c.loop-k.invariant.1
-      (turn_ahead (λ k. omega (arith, c.shared_slice_known-1.given k)) (omega arith) c.put_in.ensures c.step_all.ensures
+      (turn_ahead (λ k. omega (arith, c.type_inv.bytes k)) (omega arith) c.put_in.ensures c.step_all.ensures
       c.step_all-in-loop-k.ensures c.step_all-in-loop-k-2.ensures c.step_all-in-loop-k-3.ensures),
 )
 
