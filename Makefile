@@ -3,7 +3,7 @@ CARGO = cargo --quiet
 HOST = $(CARGO) run --release --offline --manifest-path host/Cargo.toml --bin
 BOARD = $(CARGO) run --release --offline --manifest-path host/Cargo.toml -p mullirim-board --bin
 FILES = $(CARGO) run --release --offline --manifest-path host/Cargo.toml -p mullirim-files --bin
-SOURCES := crates.txt $(shell find crates -name '*.rt' -o -name '*.antt')
+SOURCES := crates.txt $(shell find crates -name out -prune -o \( -name '*.rt' -o -name '*.antt' \) -print)
 
 CHECKED = -std=c11 -g -O1 -Wall -Wextra -DCHECKED -fsanitize=address,undefined -fno-sanitize-recover=all -Iinclude
 
@@ -11,19 +11,19 @@ CHECKED = -std=c11 -g -O1 -Wall -Wextra -DCHECKED -fsanitize=address,undefined -
 .PHONY: said quoted stored names stock setup beside memory
 
 # The gate: the second loader's own tests, the stored outputs against it, the calls for C and Rust, then every proof, every edit that
-# must fail and every program, from nothing. The last line is the prover's own count.
+# must fail and every program. The last line is the prover's own count.
 test: names host expected layout example memory differ suffixes bundles faults replay checked listed quoted stock
-	rt ci
+	tools/gate
 
 # What a change needs while one is at it: the crates that changed since main was left (on main: since its last commit) with what they
 # stand on, the host's tests, and the names. It isn't the gate: crates above those, edits and comparisons are left out.
 quick:
 	@base=$$(git merge-base HEAD main 2>/dev/null || git merge-base HEAD origin/main 2>/dev/null || git rev-parse HEAD) && \
 	crates=$$({ git diff --name-only $$base -- crates && git ls-files --others --exclude-standard -- crates && \
-	    git diff $$base -- crates.txt | sed -n 's,^+\([a-z_]*\):.*,crates/\1/,p'; } | cut -d/ -f2 | sort -u) && \
+	    git diff $$base -- crates.txt | sed -n 's,^+\([a-z0-9_]*\)[^:]*:.*,crates/\1/,p'; } | cut -d/ -f2 | sort -u) && \
 	there=$$(for crate in $$crates; do if [ -d crates/$$crate ]; then echo $$crate; fi; done) && \
-	if [ -n "$$there" ]; then echo rt check $$there && rt check $$there; \
-	else echo "No crate has changed since $$(git rev-parse --short $$base)."; fi && \
+	for crate in $$there; do echo rt check of $$crate && (cd crates/$$crate && rt check) || exit 1; done && \
+	if [ -z "$$there" ]; then echo "No crate has changed since $$(git rev-parse --short $$base)."; fi && \
 	$(MAKE) --no-print-directory host names && \
 	echo "Ran: rt check of" $${there:-no crate}", the host's tests, the names. Before a merge: make test."
 
@@ -52,8 +52,8 @@ layout:
 	$(HOST) layout > build/layout.inc
 	$(CC) -std=c11 -Wall -Wextra -Werror -Iinclude -Ibuild -fsyntax-only tests/layout.c examples/board.c
 
-# The calls for C, proved and compiled: for x86-64 as they ship, and for the machine at hand. The tool makes the other archives of build/
-# beside the one that stands for them all here.
+# The calls for C, proved and compiled: as they ship, and under the sanitizer's eyes. The tool makes the other archives of build/ beside the
+# one that stands for them all here.
 library: build/libboard.a
 
 build/libboard.a: $(SOURCES) tools/library
@@ -62,7 +62,7 @@ build/libboard.a: $(SOURCES) tools/library
 # The board in forty lines, on the library as it ships. What it must print is what the second loader makes of the same transfers.
 example: build/libboard.a
 	tools/shipped board build/example examples/board.c
-	tools/run build/example > build/example.out
+	build/example > build/example.out
 	$(HOST) example | cmp - build/example.out
 
 # The proved loader beside the second one, call by call, over every split of small flashes and many of large ones; stops by itself. `soak`
@@ -106,9 +106,9 @@ faults: build/libboard.a
 # every split of small flashes too.
 replay: build/libboard.a
 	tools/shipped board build/replay tests/replay.c
-	$(HOST) record -- 20261116 2700 | tools/run build/replay > build/replay.said || { cat build/replay.said; false; }
+	$(HOST) record -- 20261116 2700 | build/replay > build/replay.said || { cat build/replay.said; false; }
 	tools/shipped files build/replay_files tests/replay_files.c
-	$(HOST) record_files -- 20261116 20000 | tools/run build/replay_files >> build/replay.said || { cat build/replay.said; false; }
+	$(HOST) record_files -- 20261116 20000 | build/replay_files >> build/replay.said || { cat build/replay.said; false; }
 	@cat build/replay.said
 
 # And under AddressSanitizer and UndefinedBehaviorSanitizer, which must speak up where a board breaks its word.
@@ -129,8 +129,8 @@ checked: build/libboard.a
 
 # The proved program that lists bundles, on every input.
 listed: inputs
-	rt check bundle_list
-	tools/listed tools/run target/bin/bundle_list
+	cd crates/bundle_list && rt run < stdin | cmp - stdout
+	tools/listed crates/bundle_list/out/bundle_list
 
 # Stock dfu-util on the proved calls, by a stand-in for libusb, and the tool beside dfu-suffix. The gate goes on without where it is not
 # installed, and says so.

@@ -1,6 +1,6 @@
 /*
  * A board that answers control transfers over a simulated flash: query, ERASE of a block, GETSTATUS.
- * After `rt staticlib board`: cc -Iinclude examples/board.c target/staticlib/libboard.a
+ * After `rt lib` in crates/board: cc -Iinclude examples/board.c crates/board/out/libboard.a
  */
 #include <stdio.h>
 #include <string.h>
