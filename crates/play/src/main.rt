@@ -1,10 +1,11 @@
 // Plays the script on standard input, one session of every kind of request, through the loader.
 #![tactic(auto)]
 
-use libc::STDIN_FILENO;
+use std::io;
 
-fn main() {
-    let mut input = io::large_buffer();
-    let n = io::read_full(STDIN_FILENO, &mut input);
-    script::play(&input[..n]);
+fn main(rt: HostRuntime) -> io::Result<()> {
+    let mut input = [0u8; 65_536];
+    let n = input::read_full(&mut rt.reader(), &mut input)?;
+    script::play(&rt, &input[..n])?;
+    Ok(())
 }

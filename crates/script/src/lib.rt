@@ -1,7 +1,7 @@
 // A script of calls, played through the loader: a line of standard output for the start, and one for each call.
 #![tactic(auto)]
 
-ghost use Rattle.std.specs.Prelude.{◌≤◌, ◌≡◌, length};
+ghost use Rattle.std.specs.Prelude.{◌≤◌, ◌≡◌, length, IfOk};
 ghost use Rattle.script.specs.Tape.{calls_after_head, calls_of};
 ghost use Rattle.script.specs.Turn.{turned, turn_of};
 
@@ -9,6 +9,7 @@ use crate::line::Line;
 use crate::tape::{Head, Record};
 use flash::Block;
 use session::Session;
+use std::io;
 
 mod line;
 mod tape;
@@ -20,7 +21,7 @@ const ROOM: usize = 261_120;
 const UNTOUCHED: u8 = 0xEE;
 
 // What a call is worth: its line, and the session for the next.
-#[derive(Drop)]
+#[derive(Clone, Copy)]
 struct Turn {
     line: Line,
     session: Session,
@@ -41,8 +42,8 @@ fn play_call(s: Session, flash: &mut [u8], setup: &[u8], d: &[u8]) -> Turn
 }
 
 // The calls of a script, each with the session that the one before handed back, and how many they were.
-fn play_calls(script: &[u8], flash: &mut [u8], first: Session) -> usize
-    ensures { result ≡ calls_after_head script.now }
+fn play_calls(rt: &impl Print, script: &[u8], flash: &mut [u8], first: Session) -> io::Result<usize>
+    ensures { IfOk result (λ n. n ≡ calls_after_head script.now) }
 {
     let mut session = first;
     let mut at = tape::HEAD;
@@ -53,28 +54,28 @@ fn play_calls(script: &[u8], flash: &mut [u8], first: Session) -> usize
             Record::Call { ends, next } => {
                 let from = ends + 2;
                 let done = play_call(session, flash, &rest[1..ends], &rest[from..next]);
-                line::show(done.line);
+                line::show(rt, done.line)?;
                 session = done.session;
                 at += next;
                 played += 1;
             }
-            Record::End => return played,
+            Record::End => return Ok(played),
         }
     }
-    played
+    Ok(played)
 }
 
 // The flash as a run begins, the start, and the calls.
-fn play_from(script: &[u8], head: Head, flash: &mut [u8]) -> usize
+fn play_from(rt: &impl Print, script: &[u8], head: Head, flash: &mut [u8]) -> io::Result<usize>
     requires { length flash.old ≤ 261120 }
-    ensures { result ≡ calls_after_head script.now }
+    ensures { IfOk result (λ n. n ≡ calls_after_head script.now) }
 {
     let a = head.a as u32;
     let b = head.b as u32;
     tape::fill(flash, a);
     let begun = loader::start(flash, Block(a), Block(b), head.part0, head.part1);
-    line::show_start(begun);
-    play_calls(script, flash, begun.session)
+    line::show_start(rt, begun)?;
+    play_calls(rt, script, flash, begun.session)
 }
 
 // Zeros for a flash. The contract gives their number only, since every run fills its flash first.
@@ -85,14 +86,14 @@ fn room() -> [u8; ROOM]
 }
 
 // Plays a script, and tells how many calls it held. One that is too short for a head says nothing.
-pub fn play(script: &[u8]) -> usize
-    ensures { result ≡ calls_of script.now }
+pub fn play(rt: &impl Print, script: &[u8]) -> io::Result<usize>
+    ensures { IfOk result (λ n. n ≡ calls_of script.now) }
 {
     if script.len() < tape::HEAD {
-        return 0;
+        return Ok(0);
     }
     let head = tape::read_head(script);
     let n = head.b as usize * 1024;
     let mut flash = room();
-    play_from(script, head, &mut flash[..n])
+    play_from(rt, script, head, &mut flash[..n])
 }

@@ -5,11 +5,11 @@ ghost use Rattle.answers.specs.Answers.{leaves};
 ghost use Rattle.script.specs.Turn.{sum_bytes, line_of};
 
 use answers::Outcome;
-use libc::STDOUT_FILENO;
+use std::io;
 use sums::MOST;
 
 // The last three are the sums of the kept block sums, of the whole reply buffer and of the flash.
-#[derive(Drop)]
+#[derive(Clone, Copy)]
 pub struct Line {
     answer: u32,
     count: u32,
@@ -54,30 +54,30 @@ pub fn line_of(outcome: Outcome, reply: &[u8], flash: &[u8]) -> Line
     }
 }
 
-fn show_decimal(n: u32) {
-    io::print_decimal(STDOUT_FILENO, n as u64);
-    io::write_all(STDOUT_FILENO, b" ");
+fn show_decimal(rt: &impl Print, n: u32) -> io::Result<()> {
+    rt.print(n)?;
+    rt.write_all(b" ")
 }
 
-fn show_hex(n: u32, after: &[u8]) {
-    io::write_all(STDOUT_FILENO, &print::hex8(n));
-    io::write_all(STDOUT_FILENO, after);
+fn show_hex(rt: &impl Print, n: u32, after: &[u8]) -> io::Result<()> {
+    rt.write_all(&print::hex8(n))?;
+    rt.write_all(after)
 }
 
-pub fn show(line: Line) {
-    show_decimal(line.answer);
-    show_decimal(line.count);
-    show_decimal(line.state as u32);
-    show_decimal(line.status as u32);
-    show_hex(line.whole, b" ");
-    show_hex(line.sums, b" ");
-    show_hex(line.reply, b" ");
-    show_hex(line.flash, b"\n");
+pub fn show(rt: &impl Print, line: Line) -> io::Result<()> {
+    show_decimal(rt, line.answer)?;
+    show_decimal(rt, line.count)?;
+    show_decimal(rt, line.state as u32)?;
+    show_decimal(rt, line.status as u32)?;
+    show_hex(rt, line.whole, b" ")?;
+    show_hex(rt, line.sums, b" ")?;
+    show_hex(rt, line.reply, b" ")?;
+    show_hex(rt, line.flash, b"\n")
 }
 
-pub fn show_start(begun: Outcome) {
+pub fn show_start(rt: &impl Print, begun: Outcome) -> io::Result<()> {
     let answer = begun.answer;
-    io::write_all(STDOUT_FILENO, b"start ");
-    show_decimal(answers::number(answer));
-    show_hex(begun.session.sums.whole, b"\n");
+    rt.write_all(b"start ")?;
+    show_decimal(rt, answers::number(answer))?;
+    show_hex(rt, begun.session.sums.whole, b"\n")
 }

@@ -8,7 +8,7 @@ use flash::{BLOCK, ERASED};
 pub const HEAD: usize = 10;
 
 // A, B and the part numbers of a start.
-#[derive(Drop)]
+#[derive(Clone, Copy)]
 pub struct Head {
     pub a: u8,
     pub b: u8,
@@ -17,7 +17,7 @@ pub struct Head {
 }
 
 // Where in a record the setup bytes end, and where the data bytes do: the next record begins there.
-#[derive(Drop)]
+#[derive(Clone, Copy)]
 pub enum Record {
     Call { ends: usize, next: usize },
     End,
