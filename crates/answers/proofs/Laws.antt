@@ -5,10 +5,10 @@ use Rattle.session.specs.declared.Talk.{Talk}
 use Rattle.session.specs.declared.Session.{Session}
 use Rattle.answers.specs.declared.Answer.{Answer}
 use Rattle.answers.specs.declared.Heard.{Heard}
-use Rattle.answers.specs.Answers.{heard, heardAt}
+use Rattle.answers.specs.Answers.{heard, heard_at}
 use Rattle.answers.specs.Moves.{taken_of}
 
 -- a talk that is taken is the session that it leads to
 pub taken_at :
-    (s t : Session) (talk : Talk) (h : Heard) → h ≡ heard Answer.Taken 0 talk → with_talk s talk ≡ t → heardAt s h ≡ taken_of t
-taken_at s t talk h e p = ap (heardAt s) e ∙ ap taken_of p
+    (s t : Session) (talk : Talk) (h : Heard) → h ≡ heard Answer.Taken 0 talk → with_talk s talk ≡ t → heard_at s h ≡ taken_of t
+taken_at s t talk h e p = ap (heard_at s) e ∙ ap taken_of p

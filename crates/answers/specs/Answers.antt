@@ -8,12 +8,12 @@ use Rattle.answers.specs.declared.Heard.{Heard}
 use Rattle.answers.specs.declared.Outcome.{Outcome}
 
 -- the number of each answer
-abbrev pub answerNumber : Answer → ℕ
-answerNumber Answer.Taken = 0
-answerNumber Answer.Stalled = 1
-answerNumber Answer.Unfit = 2
-answerNumber Answer.Faulted = 3
-answerNumber Answer.ResetAsked = 4
+abbrev pub answer_number : Answer → ℕ
+answer_number Answer.Taken = 0
+answer_number Answer.Stalled = 1
+answer_number Answer.Unfit = 2
+answer_number Answer.Faulted = 3
+answer_number Answer.ResetAsked = 4
 
 -- an answer with its count of reply bytes, and the session handed back
 abbrev pub outcome : Answer → ℕ → Session → Outcome
@@ -23,8 +23,8 @@ outcome answer count session = record { answer = answer; count = count; session 
 abbrev pub heard : Answer → ℕ → Talk → Heard
 heard answer count talk = record { answer = answer; count = count; talk = talk }
 
-abbrev pub heardAt : Session → Heard → Outcome
-heardAt s h = outcome h.answer h.count (with_talk s h.talk)
+abbrev pub heard_at : Session → Heard → Outcome
+heard_at s h = outcome h.answer h.count (with_talk s h.talk)
 
 -- all that a call leaves: the answer by its number, how many bytes of the reply are meant, the session for the next call, the flash and
 -- the reply buffer
@@ -53,10 +53,10 @@ pub record Replied : Type 0 where
 
 abbrev pub leaves : Outcome → List ℕ → List ℕ → Leaves
 leaves o flash reply =
-    record { answer = answerNumber o.answer; count = o.count; session = o.session; flash = flash; reply = reply }
+    record { answer = answer_number o.answer; count = o.count; session = o.session; flash = flash; reply = reply }
 
 abbrev pub told : Outcome → Told
-told o = record { answer = answerNumber o.answer; count = o.count; session = o.session }
+told o = record { answer = answer_number o.answer; count = o.count; session = o.session }
 
 abbrev pub done : Outcome → List ℕ → Done
 done o flash = record { outcome = o; flash = flash }

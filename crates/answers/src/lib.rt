@@ -4,7 +4,7 @@
 ghost use Rattle.std.specs.Prelude.{◌≡◌, true};
 ghost use Rattle.session.specs.Session.{phase_of, down_of, with_talk};
 ghost use Rattle.session.specs.Rules.{fit_of};
-ghost use Rattle.answers.specs.Answers.{answerNumber, heard, heardAt};
+ghost use Rattle.answers.specs.Answers.{answer_number, heard, heard_at};
 ghost use Rattle.answers.specs.declared.Answer.{Answer};
 ghost use Rattle.answers.specs.Moves.{moved_to, to_idle, to_error, to_sync, stall_of, unfit_of, fault_of, reset_of};
 
@@ -39,7 +39,7 @@ pub struct Heard {
 
 // The number that the host hears for an answer.
 pub fn number(answer: Answer) -> u32
-    ensures { result ≡ answerNumber answer }
+    ensures { result ≡ answer_number answer }
 {
     match answer {
         Answer::Taken => 0,
@@ -136,7 +136,7 @@ pub fn taken(talk: Talk) -> Heard
 }
 
 pub fn stalled(s: Session) -> Heard
-    ensures { heardAt s result ≡ stall_of s }
+    ensures { heard_at s result ≡ stall_of s }
 {
     if s.phase.state.0 == State::ERROR {
         return Heard {
@@ -153,7 +153,7 @@ pub fn stalled(s: Session) -> Heard
 }
 
 pub fn unfit(s: Session) -> Heard
-    ensures { heardAt s result ≡ unfit_of s }
+    ensures { heard_at s result ≡ unfit_of s }
 {
     Heard {
         answer: Answer::Unfit,
@@ -163,7 +163,7 @@ pub fn unfit(s: Session) -> Heard
 }
 
 pub fn faulted(s: Session, status: u8) -> Heard
-    ensures { heardAt s result ≡ fault_of s status }
+    ensures { heard_at s result ≡ fault_of s status }
 {
     let talk = error(s, status);
     Heard {
@@ -175,7 +175,7 @@ pub fn faulted(s: Session, status: u8) -> Heard
 
 pub fn reset(s: Session) -> Heard
     requires { fit_of s ≡ true }
-    ensures { heardAt s result ≡ reset_of s }
+    ensures { heard_at s result ≡ reset_of s }
 {
     let talk = session::fresh_talk(s.board);
     Heard {

@@ -5,7 +5,7 @@
 ghost use Rattle.std.specs.Prelude.{◌+◌, ◌≤◌, ◌<◌, ◌≡◌, true, length, get_or};
 ghost use Rattle.flash.specs.Flash.{start_of, Within};
 ghost use Rattle.session.specs.Rules.{fit_of};
-ghost use Rattle.answers.specs.Answers.{heardAt};
+ghost use Rattle.answers.specs.Answers.{heard_at};
 ghost use Rattle.jobs.specs.Job.{planned, plan_of};
 ghost use Rattle.jobs.specs.declared.Job.{Job};
 ghost use Rattle.command.specs.Ready.{Ready, Loading};
@@ -78,7 +78,7 @@ fn prog(s: Session, flash: &[u8], block: Block, len: u32, n: usize) -> Decision
 }
 
 fn read(s: Session, block: Block, len: u32) -> Heard
-    ensures { heardAt s result ≡ read_of s block.0 len }
+    ensures { heard_at s result ≡ read_of s block.0 len }
 {
     if !session::in_application(s.board, block, len) {
         return answers::faulted(s, Status::ADDRESS);
@@ -121,7 +121,7 @@ fn erase(s: Session, block: Block, count: u32) -> Decision
 }
 
 fn info(s: Session) -> Heard
-    ensures { heardAt s result ≡ info_of s }
+    ensures { heard_at s result ≡ info_of s }
 {
     let mut t = s;
     t.up.choice = Upload::INFO_BYTES;
@@ -139,7 +139,7 @@ fn prefix_for(flag: u8) -> u8
 }
 
 fn bin(s: Session, flag: u8) -> Heard
-    ensures { heardAt s result ≡ bin_of s flag }
+    ensures { heard_at s result ≡ bin_of s flag }
 {
     let mut t = s;
     let on = prefix_for(flag);
@@ -187,7 +187,7 @@ fn command(s: Session, flash: &[u8], d: &[u8]) -> Decision
 }
 
 fn close(s: Session) -> Heard
-    ensures { heardAt s result ≡ closed_of s }
+    ensures { heard_at s result ≡ closed_of s }
 {
     if s.down.left != 0 {
         return answers::faulted(s, Status::NOT_DONE);

@@ -17,7 +17,7 @@ use Rattle.session.specs.declared.Board.{Board}
 use Rattle.session.specs.declared.Session.{Session}
 use Rattle.answers.specs.declared.Heard.{Heard}
 use Rattle.answers.specs.declared.Outcome.{Outcome}
-use Rattle.answers.specs.Answers.{done, heardAt}
+use Rattle.answers.specs.Answers.{done, heard_at}
 use Rattle.jobs.specs.declared.Decision.{Decision}
 use Rattle.jobs.specs.declared.Job.{Job}
 use Rattle.jobs.specs.declared.Job.TheVariants.{Nothing, Bytes, Wipe}
@@ -26,7 +26,7 @@ use Rattle.jobs.specs.Job.{Place, Can, Reaches, stores_for, sums_after, flash_do
 
 -- what leaves flash alone, at a session
 pub only_at :
-    (s : Session) (o : Outcome) (h : Heard) (x : Decision) → x ≡ decision_of h Nothing → heardAt s h ≡ o → planned s x ≡ plan_of o Nothing
+    (s : Session) (o : Outcome) (h : Heard) (x : Decision) → x ≡ decision_of h Nothing → heard_at s h ≡ o → planned s x ≡ plan_of o Nothing
 only_at s o h x e p = ap (planned s) e ∙ ap (λ (y : Outcome). plan_of y Nothing) p
 
 -- a refresh of the same blocks

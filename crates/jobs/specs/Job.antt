@@ -8,7 +8,7 @@ use Rattle.session.specs.declared.Board.{Board}
 use Rattle.session.specs.declared.Session.{Session}
 use Rattle.answers.specs.declared.Heard.{Heard}
 use Rattle.answers.specs.declared.Outcome.{Outcome}
-use Rattle.answers.specs.Answers.{Done, outcome, done, heardAt}
+use Rattle.answers.specs.Answers.{Done, outcome, done, heard_at}
 use Rattle.jobs.specs.declared.Decision.{Decision}
 use Rattle.jobs.specs.declared.Job.{Job}
 use Rattle.jobs.specs.declared.Job.TheVariants.{Nothing, Bytes, Wipe}
@@ -26,7 +26,7 @@ abbrev pub decision_of : Heard → Job → Decision
 decision_of h job = record { heard = h; job = job }
 
 abbrev pub planned : Session → Decision → Plan
-planned s x = plan_of (heardAt s x.heard) x.job
+planned s x = plan_of (heard_at s x.heard) x.job
 
 -- some bytes of the data that come with a call, and some blocks
 abbrev pub bytes_to : ℕ → ℕ → Job

@@ -5,7 +5,7 @@ ghost use Rattle.std.specs.Prelude.{◌≡◌};
 ghost use Rattle.flash.specs.Flash.{carried};
 ghost use Rattle.sums.specs.Sum.{Split};
 ghost use Rattle.session.specs.Session.{app_end};
-ghost use Rattle.answers.specs.Answers.{heardAt};
+ghost use Rattle.answers.specs.Answers.{heard_at};
 ghost use Rattle.jobs.specs.Job.{Place, Can, Reaches, decision_of, stores_for, sums_after, sums_done, summed};
 ghost use Rattle.jobs.specs.declared.Job.{Job};
 
@@ -102,7 +102,7 @@ fn sums_done(job: Job, board: Board, kept: Sums, flash: &[u8], d: &[u8]) -> Sums
 // `carry_out`, so that the session's copy is not made before flash has changed: the compiler would keep both.
 pub fn finished(s: Session, x: Decision, flash: &[u8], d: &[u8]) -> Outcome
     requires { Can x.job s.board flash.now d.now }
-    ensures { result ≡ summed (heardAt s x.heard) (sums_done x.job s.board s.sums flash.now d.now) }
+    ensures { result ≡ summed (heard_at s x.heard) (sums_done x.job s.board s.sums flash.now d.now) }
 {
     let job = x.job;
     let sums = sums_done(job, s.board, s.sums, flash, d);

@@ -26,7 +26,7 @@ use Rattle.stream.proofs.Laws.{next_length}
 use Rattle.answers.specs.declared.Answer.{Answer}
 use Rattle.answers.specs.declared.Heard.{Heard}
 use Rattle.answers.specs.declared.Outcome.{Outcome}
-use Rattle.answers.specs.Answers.{Done, Replied, outcome, replied, leaves, heard, heardAt}
+use Rattle.answers.specs.Answers.{Done, Replied, outcome, replied, leaves, heard, heard_at}
 use Rattle.jobs.specs.declared.Decision.{Decision}
 use Rattle.jobs.specs.declared.Job.{Job}
 use Rattle.jobs.specs.Job.{Plan, decision_of, planned, Can, stores_for, sums_done, summed, job_done}
@@ -49,9 +49,9 @@ answered-by s bytes before after n p q = ap₂ (λ (k : ℕ) (l : List ℕ). rep
 -- the same from what is heard, at the session that the talk leads to
 pub answered_at :
     (s t : Session) (bytes before after : List ℕ) (talk : Talk) (h : Heard) → h ≡ heard Answer.Taken (length bytes) talk
-    → after ≡ bytes ++ drop (length bytes) before → with_talk s talk ≡ t → replied (heardAt s h) after ≡ answered t bytes before
+    → after ≡ bytes ++ drop (length bytes) before → with_talk s talk ≡ t → replied (heard_at s h) after ≡ answered t bytes before
 answered_at s t bytes before after talk h e q p =
-    ap (λ (y : Heard). replied (heardAt s y) after) e
+    ap (λ (y : Heard). replied (heard_at s y) after) e
     ∙ answered-by (with_talk s talk) bytes before after (length bytes) refl q
     ∙ ap (λ (y : Session). answered y bytes before) p
 
@@ -156,23 +156,23 @@ as_told r q s f n d b x told e = e ∙ sym (ap (λ (y : Request). served y s f n
 
 -- what leaves flash alone, from its calls, with no reply and with one
 module _ (s : Session) (x : Decision) (h : Heard) (b : List ℕ) (e : x ≡ decision_of h Job.Nothing) where
-  pub only_told : (w : Outcome) → heardAt s h ≡ w → decided (planned s x) b ≡ only w b
+  pub only_told : (w : Outcome) → heard_at s h ≡ w → decided (planned s x) b ≡ only w b
   only_told w q = ap (λ (y : Plan). decided y b) (only_at s w h x e q)
 
-  pub answer_told : (w : Replied) → replied (heardAt s h) b ≡ w → decided (planned s x) b ≡ answers w
+  pub answer_told : (w : Replied) → replied (heard_at s h) b ≡ w → decided (planned s x) b ≡ answers w
   answer_told w q = ap (λ (y : Plan). decided y b) (ap (planned s) e) ∙ ap answers q
 
 -- what is left once a decision is carried out and its sums are made
 pub so_settled :
     (s : Session) (x : Decision) (o : Outcome) (f d g b : List ℕ) (w : Decided) → Can x.job s.board f d
     → g ≡ carried f (stores_for x.job d)
-    → o ≡ summed (heardAt s x.heard) (sums_done x.job s.board s.sums g d)
+    → o ≡ summed (heard_at s x.heard) (sums_done x.job s.board s.sums g d)
     → decided (planned s x) b ≡ w
     → leaves o g b ≡ settled w f d
 unfolding settled
 so_settled s x o f d g b w can p e q =
     ap (λ (y : Outcome). leaves y g b) e
-    ∙ ap (λ (y : Done). with_reply y b) (job_left x.job (heardAt s x.heard) f d g can p)
+    ∙ ap (λ (y : Done). with_reply y b) (job_left x.job (heard_at s x.heard) f d g can p)
     ∙ ap (λ (y : Decided). settled y f d) q
 
 -- what is decided can be carried out

@@ -2,7 +2,7 @@
 ghost use Rattle.std.specs.Prelude.{◌≤◌, ◌≡◌, ◌++◌, length, drop};
 ghost use Rattle.session.specs.Session.{with_talk};
 ghost use Rattle.answers.specs.declared.Answer.{Answer};
-ghost use Rattle.answers.specs.Answers.{heard, heardAt, replied};
+ghost use Rattle.answers.specs.Answers.{heard, heard_at, replied};
 ghost use Rattle.loader.specs.Reply.{answered, entered, polled, poll_time, getstatus_of, getstate_of, query_of};
 
 use answers::{Answer, Heard};
@@ -26,7 +26,7 @@ fn answer(talk: Talk, bytes: &[u8], reply: &mut [u8]) -> Heard
 // The same, where the talk stays as it is.
 fn stays(s: Session, bytes: &[u8], reply: &mut [u8]) -> Heard
     requires { (length bytes.now ≤ length reply.old) × (length bytes.now ≤ 1024) }
-    ensures { replied (heardAt s result) reply.new ≡ answered s bytes.now reply.old }
+    ensures { replied (heard_at s result) reply.new ≡ answered s bytes.now reply.old }
 {
     answer(session::talk_of(s), bytes, reply)
 }
@@ -62,7 +62,7 @@ fn poll_time(s: Session) -> u32
 
 pub fn getstatus(s: Session, reply: &mut [u8]) -> Heard
     requires { 1024 ≤ length reply.old }
-    ensures { replied (heardAt s result) reply.new ≡ getstatus_of s reply.old }
+    ensures { replied (heard_at s result) reply.new ≡ getstatus_of s reply.old }
 {
     let wait = numbers::low3(poll_time(s));
     let bytes = [
@@ -78,7 +78,7 @@ pub fn getstatus(s: Session, reply: &mut [u8]) -> Heard
 
 pub fn getstate(s: Session, reply: &mut [u8]) -> Heard
     requires { 1024 ≤ length reply.old }
-    ensures { replied (heardAt s result) reply.new ≡ getstate_of s reply.old }
+    ensures { replied (heard_at s result) reply.new ≡ getstate_of s reply.old }
 {
     let bytes = [s.phase.state.0];
     stays(s, &bytes, reply)
@@ -86,7 +86,7 @@ pub fn getstate(s: Session, reply: &mut [u8]) -> Heard
 
 pub fn query(s: Session, reply: &mut [u8]) -> Heard
     requires { 1024 ≤ length reply.old }
-    ensures { replied (heardAt s result) reply.new ≡ query_of s reply.old }
+    ensures { replied (heard_at s result) reply.new ≡ query_of s reply.old }
 {
     let bytes = [0x4D, 0x4C, 0x01, 0x20];
     stays(s, &bytes, reply)

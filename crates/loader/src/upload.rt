@@ -1,7 +1,7 @@
 // UPLOAD: how an upload goes through the chosen stream.
 ghost use Rattle.std.specs.Prelude.{◌+◌, ◌≤◌, ◌<◌, ◌^◌, ◌≡◌, length};
 ghost use Rattle.session.specs.Session.{with_talk};
-ghost use Rattle.answers.specs.Answers.{heardAt, replied};
+ghost use Rattle.answers.specs.Answers.{heard_at, replied};
 ghost use Rattle.command.specs.Ready.{Ready};
 ghost use Rattle.loader.specs.Upload.{place_of, upload_ends, uploading_at, uploaded_of, upload_of};
 
@@ -48,7 +48,7 @@ fn uploaded(s: Session, asked: u32, from: u32, given: u32) -> Talk
 pub fn upload(s: Session, flash: &[u8], asked: u32, reply: &mut [u8]) -> Heard
     requires ready { Ready s flash.now }
     requires asked_bound { (asked ≤ 1024) × (1024 ≤ length reply.old) }
-    ensures { replied (heardAt s result) reply.new ≡ upload_of s flash.now asked reply.old }
+    ensures { replied (heard_at s result) reply.new ≡ upload_of s flash.now asked reply.old }
 {
     let from = place(s);
     let n = stream::send(s.board, s.unerased, s.up, flash, from, asked, reply);

@@ -311,7 +311,7 @@ fit_facts s e =
       state = state_cases s.phase.state.0 k.state;
       status_outside = status.0;
       status_inside = status.1;
-      no_download = no_download_lem s.phase s.down k.download;
+      no_download_lem = no_download_lem s.phase s.down k.download;
       no_upload = upload.0;
       in_stream = upload.1;
       after_sync = λ h. after_sync s.phase k.after;
@@ -344,7 +344,7 @@ module _ (s : Session) (f : Fit s) where
   download_kept : download_rule s.phase s.down ≡ true
   download_kept =
       let zero : Download → Bool = λ d. eqb d.place.0 0 && eqb d.left 0 in
-      or_unless (running s.phase) (zero s.down) (λ n. ap zero (f.no_download (running-false s.phase n)))
+      or_unless (running s.phase) (zero s.down) (λ n. ap zero (f.no_download_lem (running-false s.phase n)))
 
   upload_kept : upload_rule s.phase s.up ≡ true
   upload_kept =

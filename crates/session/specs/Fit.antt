@@ -42,7 +42,7 @@ pub record Fit (s : Session) : Type 0 where
   pub state : KnownState s.phase.state.0
   pub status_outside : (s.phase.state.0 ≡ 10 → ⊥) → s.phase.status.0 ≡ 0
   pub status_inside : s.phase.state.0 ≡ 10 → ErrorStatus s.phase.status.0
-  pub no_download : (Running s.phase → ⊥) → s.down ≡ no_download
+  pub no_download_lem : (Running s.phase → ⊥) → s.down ≡ no_download
   pub no_upload : (s.phase.state.0 ≡ 9 → ⊥) → s.up.place ≡ 0
   pub in_stream : s.up.place ≤ stream_length s.up
   pub after_sync : s.phase.state.0 ≡ 3 → (s.phase.after.0 ≡ 2) ⊎ (s.phase.after.0 ≡ 5)

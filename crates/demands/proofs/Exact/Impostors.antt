@@ -373,17 +373,17 @@ pub Impostors_fail : Impostors
 Impostors_fail =
     record {
       stalls_everything = stalls_not;
-      single_reply = replies_not;
+      single_reply_lem = replies_not;
       nothing-done_at_erase = idles_at_erase;
       nothing-done_at_prog = idles_at_prog;
       nothing-erased = erases_not;
       nothing_programmed = programs_not;
       nothing_but_said = said_not;
-      all_at_first = first_not;
-      all_at_close = closes_not;
+      all_at_first_lem = first_not;
+      all_at_close_lem = closes_not;
       invented_count = invents_not;
-      constant_sums = sums_not;
-      constant_start = starts_not;
+      constant_sums_lem = sums_not;
+      constant_start_lem = starts_not;
     }
 
 -- what is asked of them our loader does

@@ -10,7 +10,7 @@ use Rattle.session.specs.Session.{talk_of}
 use Rattle.answers.specs.declared.Answer.{Answer}
 use Rattle.answers.specs.declared.Heard.{Heard}
 use Rattle.answers.specs.declared.Outcome.{Outcome}
-use Rattle.answers.specs.Answers.{answerNumber, heard}
+use Rattle.answers.specs.Answers.{answer_number, heard}
 use Rattle.jobs.specs.Job.{Plan, decision_of}
 use Rattle.loader.specs.Step.{start_outcome, step_of}
 use Rattle.demands.specs.Exact.OneOutcome.{OneOutcome}
@@ -24,7 +24,7 @@ of_number (suc (suc zero)) = Answer.Unfit
 of_number (suc (suc (suc zero))) = Answer.Faulted
 of_number (suc (suc (suc (suc n)))) = Answer.ResetAsked
 
-back : (x : Answer) → of_number (answerNumber x) ≡ x
+back : (x : Answer) → of_number (answer_number x) ≡ x
 unfolding of_number
 back Answer.Taken = refl
 back Answer.Stalled = refl

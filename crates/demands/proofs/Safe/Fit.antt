@@ -223,7 +223,7 @@ module _ (s : Session) (e : fit_of s ≡ true) where
         split = k.split;
         state = refl;
         status = rw (fit.status_outside no_error);
-        download = ap (λ (d : Download). download_rule p d) (fit.no_download (running-false s.phase stopped));
+        download = ap (λ (d : Download). download_rule p d) (fit.no_download_lem (running-false s.phase stopped));
         upload = not_uploading no_upload p;
         after = refl;
         range = k.range;

@@ -91,7 +91,7 @@ Led demand step =
 pub record Impostors : Type 0 where
   -- the rows of requests
   pub stalls_everything : Led RowsAt stalls_all → ⊥
-  pub single_reply : (bytes : List ℕ) → Led RowsAt (single_reply bytes) → ⊥
+  pub single_reply_lem : (bytes : List ℕ) → Led RowsAt (single_reply bytes) → ⊥
   -- ERASE and PROG, each by itself
   pub nothing-done_at_erase : Led EraseAt does_nothing → ⊥
   pub nothing-done_at_prog : Led ProgramAt does_nothing → ⊥
@@ -99,12 +99,12 @@ pub record Impostors : Type 0 where
   pub nothing_programmed : Led ProgramAt (does_nothing_at 1) → ⊥
   pub nothing_but_said : Led EraseAt says_taken → ⊥
   -- the flash after each piece, whatever the image, if some byte of it behind the first isn't 0xFF
-  pub all_at_first :
+  pub all_at_first_lem :
       (image : List ℕ) (i : ℕ) → 1 ≤ i → i < length image → (get_or image i 0 ≡ 0xFF → ⊥) → Led ProgramAt (all_at_first image)
       → ⊥
-  pub all_at_close : (held : List ℕ) → Led ProgramAt (all_at_close held) → ⊥
+  pub all_at_close_lem : (held : List ℕ) → Led ProgramAt (all_at_close held) → ⊥
   -- the row of UPLOAD
   pub invented_count : (invented : ℕ → ℕ) → Led RowsAt (invents_count invented) → ⊥
   -- the sums over a history
-  pub constant_sums : (sums : Sums) → History start_outcome (constant_sums sums) → ⊥
-  pub constant_start : (sums : Sums) → History (constant_start sums) step_of → ⊥
+  pub constant_sums_lem : (sums : Sums) → History start_outcome (constant_sums sums) → ⊥
+  pub constant_start_lem : (sums : Sums) → History (constant_start sums) step_of → ⊥

@@ -8,7 +8,7 @@ use Rattle.numbers.specs.Numbers.{word_at}
 use Rattle.stream.specs.Stream.{Sent}
 use Rattle.answers.specs.declared.Answer.{Answer}
 use Rattle.answers.specs.declared.Heard.{Heard}
-use Rattle.answers.specs.Answers.{answerNumber, Leaves, Told, heardAt}
+use Rattle.answers.specs.Answers.{answer_number, Leaves, Told, heard_at}
 use Rattle.jobs.specs.declared.Decision.{Decision}
 use Rattle.jobs.specs.Job.{planned}
 use Rattle.loader.specs.Step.{start_outcome, step_of}
@@ -28,7 +28,7 @@ pub record OneOutcome : Type 1 where
       → m ≡ step_of s flash setup d reply → l ≡ m
   -- what hands back a talk promises the session, the outcome or the plan that this makes of the session handed over: each tells the talk
   pub talk : (s : Session) (t u : Talk) → with_talk s t ≡ with_talk s u → t ≡ u
-  pub heard : (s : Session) (h k : Heard) → heardAt s h ≡ heardAt s k → h ≡ k
+  pub heard : (s : Session) (h k : Heard) → heard_at s h ≡ heard_at s k → h ≡ k
   pub decision : (s : Session) (x y : Decision) → planned s x ≡ planned s y → x ≡ y
   -- stream::send promises a count and the reply buffer apart
   pub sent :
@@ -38,7 +38,7 @@ pub record OneOutcome : Type 1 where
   pub word :
       (bytes : List ℕ) (at r q : ℕ) → (r ≡ word_at bytes at) × (r < 65536) → (q ≡ word_at bytes at) × (q < 65536) → r ≡ q
   -- and an answer is told by its number
-  pub answer : (x y : Answer) → answerNumber x ≡ answerNumber y → x ≡ y
+  pub answer : (x y : Answer) → answer_number x ≡ answer_number y → x ≡ y
   -- so is what a search found, whatever the flash and the range
   pub found :
       (f g : List ℕ) (block len first n : ℕ) → Within f (start_of block) len → Within g (start_of first) n

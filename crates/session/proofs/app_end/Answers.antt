@@ -1,4 +1,4 @@
--- Today the application ends where the flash does, which is what `appEnd` says.
+-- Today the application ends where the flash does, which is what `app_end` says.
 use mathlib.Core.Path.{refl}
 use Rattle.session.specs.Session.{app_end}
 use Rattle.session.proofs.app_end.Goals as goal

@@ -1,4 +1,4 @@
--- The code's tests are those of `statusRule`, in the same order.
+-- The code's tests are those of `status_rule`, in the same order.
 use mathlib.Core.Path.{refl}
 use Rattle.session.proofs.status_rule.Goals as goal
 

@@ -1,4 +1,4 @@
--- Each way out is one case of `streamLength`.
+-- Each way out is one case of `stream_length`.
 use native.Mathlib.Nat.{zero-add}
 use borrow.Author.Tests.{eq-eqb, ne_eqb}
 use Rattle.session.specs.Session.{stream_length}
