@@ -74,9 +74,9 @@ read-bundled images legal =
     given (bundled images) (Bundle (length images))
     (said (bundled images) (Bundle (length images)) (record { images = images; made = refl; many = refl; legal = legal }))
 
-pub images_in_lem : (images : List (List ℕ)) → Legal images → images_in (read_of (bundled images)) ≡ length images
+pub images_counted : (images : List (List ℕ)) → Legal images → images_in (read_of (bundled images)) ≡ length images
 unfolding images_in
-images_in_lem images legal = ap images_in (read-bundled images legal)
+images_counted images legal = ap images_in (read-bundled images legal)
 
 -- no bytes where there is no image
 image_none : (bytes : List ℕ) (k : ℕ) → images_in (read_of bytes) ≤ k → image_of bytes k ≡ []
@@ -99,7 +99,7 @@ unfolding image_of
 image_some images legal k h =
     let l : List ℕ = lengths_of images in
     let bytes : List ℕ = bundled images in
-    ap (λ (p : Part). take p.length (drop p.from bytes)) (part_some bytes k (omega (arith, images_in_lem images legal)))
+    ap (λ (p : Part). take p.length (drop p.from bytes)) (part_some bytes k (omega (arith, images_counted images legal)))
     ∙ ap (λ (e : Entry). take e.length (drop e.offset bytes)) (entry_is images legal k (omega (arith, lengths_many images)))
     ∙ ap (take (get_or l k 0)) (behind_head images (total (take k l)))
     ∙ image_part images k h
@@ -111,7 +111,7 @@ hands_back =
           elim (dec_lt k (length images)) [
             | yes h ↦ image_some images legal k h
             | no h ↦
-                image_none (bundled images) k (omega (arith, images_in_lem images legal))
+                image_none (bundled images) k (omega (arith, images_counted images legal))
                 ∙ sym (get_or-eq_default images [] (omega arith))
           ];
       of_other = λ bytes b other k.
@@ -136,7 +136,7 @@ one_hands_back image hands bytes b k =
           hands.of_other bytes b
           (λ images legal e.
           let some : 1 ≤ length (lengths_of images) = legal.counted.some in
-          omega (arith, ap (λ (x : List ℕ). images_in (read_of x)) e, images_in_lem images legal, lengths_many images)) k
+          omega (arith, ap (λ (x : List ℕ). images_in (read_of x)) e, images_counted images legal, lengths_many images)) k
           ∙ sym (image_none bytes k (omega arith))
     ]
 

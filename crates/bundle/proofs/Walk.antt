@@ -37,7 +37,7 @@ module _ (bytes : List ℕ) (n m left k at : ℕ) (e : Entry) (more : m ≡ suc 
     passed l =
         by_entry ∙ rw (eq-eqb e.offset at h, ne_eqb e.length 0 some, sym is_end, le-ltb (length bytes) stop l)
 
--- an entry without bytes, found by what is read from it on
+-- an entry without bytes, where only the file and the place are named
 pub empty_at :
     (bytes : List ℕ) (n m k at : ℕ) → 0 < m → (entry_at bytes k).offset ≡ at → (entry_at bytes k).length ≡ 0
     → read_from bytes n m k at ≡ Empty

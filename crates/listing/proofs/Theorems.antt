@@ -15,7 +15,7 @@ use Rattle.bundle.specs.Claims.{lengths_of, Legal, bundled}
 use Rattle.bundle.proofs.Meaning.{accepted_good}
 use Rattle.bundle.proofs.Totals.{lengths_many}
 use Rattle.bundle.proofs.Made.{bundle_with}
-use Rattle.bundle.proofs.Theorems.{images_in_lem, hands_back}
+use Rattle.bundle.proofs.Theorems.{images_counted, hands_back}
 use Rattle.listing.specs.Listing.{most_bytes, refused_word, images_word, feed, line_of, lines_from, listed, list_of}
 use Rattle.listing.specs.Claims.{lines_of, text_of, Listed, ListsExactly, OneLister}
 use Rattle.listing.proofs.Laws.{too_long, short_enough, lines_next, lines_none}
@@ -39,7 +39,7 @@ unfolding list_of
 of_bundle bytes images l =
     let legal : Legal images = l.legal in
     let many : listed bytes ≡ length images =
-    short_enough bytes l.short ∙ ap (λ (x : List ℕ). images_in (read_of x)) l.made ∙ images_in_lem images legal
+    short_enough bytes l.short ∙ ap (λ (x : List ℕ). images_in (read_of x)) l.made ∙ images_counted images legal
     in
     let some : 1 ≤ length (lengths_of images) = legal.counted.some in
     let none : listed bytes ≡ 0 → ⊥ = λ e. omega (arith, many, lengths_many images) in
@@ -80,7 +80,7 @@ none_listed : (bytes : List ℕ) → listed bytes ≡ 0 → (images : List (List
 none_listed bytes e images l =
     let some : 1 ≤ length (lengths_of images) = l.legal.counted.some in
     let many : images_in (read_of bytes) ≡ length images =
-    ap (λ (x : List ℕ). images_in (read_of x)) l.made ∙ images_in_lem images l.legal
+    ap (λ (x : List ℕ). images_in (read_of x)) l.made ∙ images_counted images l.legal
     in
     omega (arith, short_enough bytes l.short, lengths_many images)
 
