@@ -135,6 +135,7 @@ pub fn taken(talk: Talk) -> Heard
     }
 }
 
+#[tactic(auto, unfolding(crate::specs::Moves::stall_of))]
 pub fn stalled(s: Session) -> Heard
     ensures { heard_at s result ≡ stall_of s }
 {

@@ -186,6 +186,7 @@ fn command(s: Session, flash: &[u8], d: &[u8]) -> Decision
     by_number(s, flash, d)
 }
 
+#[tactic(auto, using(answers::proofs::Laws::taken_at), unfolding(crate::specs::Download::closed_of))]
 fn close(s: Session) -> Heard
     ensures { heard_at s result ≡ closed_of s }
 {
