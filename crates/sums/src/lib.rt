@@ -52,7 +52,9 @@ fn whole_of(block: &[u32; MOST], a: Block, e: Block) -> u32
     crc::join_all(&all[from..to])
 }
 
-// The sums after blocks `first` to the one before `stop` changed.
+// The sums after blocks `first` to the one before `stop` changed. As a call of its own it would have a copy of the sums on the stack, beside
+// those of its caller.
+#[inline(always)]
 pub fn refresh(kept: Sums, flash: &[u8], a: Block, e: Block, first: Block, stop: Block) -> Sums
     requires split { Split flash.now a.0 e.0 }
     requires first_le_stop { (first.0 ≤ stop.0) × (stop.0 ≤ e.0) }
