@@ -9,9 +9,6 @@ use Rattle.flash.proofs.past_eights.Goals as goal
 pub loop-at-init : goal.loop-at-init
 loop-at-init c = passed_none _ _ _ (omega arith)
 
-pub returns-then-eight : goal.returns-then-eight
-returns-then-eight c = c.loop-at.invariant
-
 pub returns-then-eight-2 : goal.returns-then-eight-2
 returns-then-eight-2 c =
     let byte = c.type_inv.flash in
@@ -28,12 +25,6 @@ loop-at-preserved c =
     pass _ _ (at + 8) _ (omega arith) (omega arith) (omega arith)
     more
     (pass _ _ at (at + 8) (omega arith) (omega arith) refl all c.loop-at.invariant)
-
-pub returns-then-to-at-lt-EIGHT : goal.returns-then-to-at-lt-EIGHT
-returns-then-to-at-lt-EIGHT c = c.loop-at.invariant
-
-pub returns-then-eight-3 : goal.returns-then-eight-3
-returns-then-eight-3 c = c.loop-at.invariant
 
 pub returns : goal.returns
 returns c =
