@@ -85,7 +85,8 @@ fn room() -> [u8; ROOM]
     [0u8; ROOM]
 }
 
-// Plays a script, and tells how many calls it held. One that is too short for a head says nothing.
+// Plays a script, and tells how many calls it held. One that is too short for a head says nothing. An error is one of standard output,
+// and what is lent is as it was.
 pub fn play(rt: &impl Print, script: &[u8]) -> io::Result<usize>
     ensures { IfOk result (λ n. n ≡ calls_of script.now) }
 {
