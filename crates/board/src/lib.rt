@@ -52,7 +52,7 @@ pub extern "C" fn mullirim_start(
     }
 }
 
-// One request by value. It is apart from `mullirim_request`, whose proof is by hand, so that all but the store is proved as elsewhere.
+// One request by value, with numbers for the answer. It is apart from `mullirim_request`, so that there the store alone is left.
 fn handle(session: Session, flash: &mut [u8], setup: &[u8], d: &[u8], reply: &mut [u8]) -> Handled
     ensures { at_board result.answer result.session flash.new reply.new
         ≡ requested_of session flash.old setup.now d.now reply.old }
