@@ -78,51 +78,27 @@ fn none() -> Download
 pub fn idle(s: Session) -> Talk
     ensures { with_talk s result ≡ to_idle s }
 {
-    moved(
-        s,
-        State(State::IDLE),
-        Status(Status::OK),
-        State(State::IDLE),
-        none(),
-    )
+    moved(s, State::IDLE, Status::OK, State::IDLE, none())
 }
 
-fn error(s: Session, status: u8) -> Talk
-    ensures { with_talk s result ≡ to_error s status }
+fn error(s: Session, status: Status) -> Talk
+    ensures { with_talk s result ≡ to_error s status.0 }
 {
-    moved(
-        s,
-        State(State::ERROR),
-        Status(status),
-        State(State::IDLE),
-        none(),
-    )
+    moved(s, State::ERROR, status, State::IDLE, none())
 }
 
 // Download sync that leads back to idle: no download runs.
 pub fn sync(s: Session) -> Talk
     ensures { with_talk s result ≡ to_sync s 2 (down_of 0 0) }
 {
-    moved(
-        s,
-        State(State::DOWNLOAD_SYNC),
-        Status(Status::OK),
-        State(State::IDLE),
-        none(),
-    )
+    moved(s, State::DOWNLOAD_SYNC, Status::OK, State::IDLE, none())
 }
 
 // Manifest sync: the download is closed.
 pub fn manifest(s: Session) -> Talk
     ensures { with_talk s result ≡ moved_to s (phase_of 6 0 2) (down_of 0 0) }
 {
-    moved(
-        s,
-        State(State::MANIFEST_SYNC),
-        Status(Status::OK),
-        State(State::IDLE),
-        none(),
-    )
+    moved(s, State::MANIFEST_SYNC, Status::OK, State::IDLE, none())
 }
 
 pub fn taken(talk: Talk) -> Heard
@@ -139,7 +115,7 @@ pub fn taken(talk: Talk) -> Heard
 pub fn stalled(s: Session) -> Heard
     ensures { heard_at s result ≡ stall_of s }
 {
-    if s.phase.state.0 == State::ERROR {
+    if s.phase.state == State::ERROR {
         return Heard {
             answer: Answer::Stalled,
             count: 0,
@@ -163,8 +139,8 @@ pub fn unfit(s: Session) -> Heard
     }
 }
 
-pub fn faulted(s: Session, status: u8) -> Heard
-    ensures { heard_at s result ≡ fault_of s status }
+pub fn faulted(s: Session, status: Status) -> Heard
+    ensures { heard_at s result ≡ fault_of s status.0 }
 {
     let talk = error(s, status);
     Heard {

@@ -29,9 +29,9 @@ fn write(s: Session, at: Addr, skip: u32, n: u32, left: u32) -> Decision
     };
     let h = answers::taken(answers::moved(
         s,
-        State(State::DOWNLOAD_SYNC),
-        Status(Status::OK),
-        State(State::DOWNLOAD_IDLE),
+        State::DOWNLOAD_SYNC,
+        Status::OK,
+        State::DOWNLOAD_IDLE,
         down,
     ));
     Decision {
@@ -40,8 +40,8 @@ fn write(s: Session, at: Addr, skip: u32, n: u32, left: u32) -> Decision
     }
 }
 
-fn fault(s: Session, status: u8) -> Decision
-    ensures { planned s result ≡ fault_plan s status }
+fn fault(s: Session, status: Status) -> Decision
+    ensures { planned s result ≡ fault_plan s status.0 }
 {
     jobs::only(answers::faulted(s, status))
 }
@@ -213,12 +213,13 @@ fn piece(s: Session, n: usize) -> Decision
 }
 
 // What a DNLOAD does in a state that allows it: a command in idle, a piece in download idle.
+#[tactic(auto, unfolding(crate::specs::Download::dnload_of))]
 pub fn dnload(s: Session, flash: &[u8], d: &[u8]) -> Decision
     requires ready { Ready s flash.now }
     requires loading { Loading s }
     ensures { planned s result ≡ dnload_of s flash.now d.now }
 {
-    if s.phase.state.0 == State::IDLE {
+    if s.phase.state == State::IDLE {
         command(s, flash, d)
     } else {
         piece(s, d.len())

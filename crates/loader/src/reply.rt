@@ -32,28 +32,29 @@ fn stays(s: Session, bytes: &[u8], reply: &mut [u8]) -> Heard
 }
 
 // The state that a poll enters.
-fn entered(phase: Phase) -> u8
-    ensures { result ≡ entered phase }
+#[tactic(auto, unfolding(crate::specs::Reply::entered))]
+fn entered(phase: Phase) -> State
+    ensures { result.0 ≡ entered phase }
 {
-    let state = phase.state.0;
-    match state {
-        State::DOWNLOAD_SYNC => phase.after.0,
+    match phase.state {
+        State::DOWNLOAD_SYNC => phase.after,
         State::MANIFEST_SYNC => State::IDLE,
-        _ => state,
+        state => state,
     }
 }
 
+#[tactic(auto, unfolding(crate::specs::Reply::polled))]
 fn poll(s: Session) -> Talk
     ensures { with_talk s result ≡ polled s }
 {
     let mut t = session::talk_of(s);
-    let state = entered(s.phase);
-    t.phase.state.0 = state;
-    t.phase.after.0 = State::IDLE;
+    t.phase.state = entered(s.phase);
+    t.phase.after = State::IDLE;
     t
 }
 
 // How long the host is to wait before it polls again.
+#[tactic(auto, unfolding(crate::specs::Reply::poll_time))]
 fn poll_time(s: Session) -> u32
     ensures { result ≡ poll_time s }
 {
@@ -70,12 +71,13 @@ pub fn getstatus(s: Session, reply: &mut [u8]) -> Heard
         wait.0,
         wait.1,
         wait.2,
-        entered(s.phase),
+        entered(s.phase).0,
         0,
     ];
     answer(poll(s), &bytes, reply)
 }
 
+#[tactic(auto, unfolding(crate::specs::Reply::getstate_of))]
 pub fn getstate(s: Session, reply: &mut [u8]) -> Heard
     requires { 1024 ≤ length reply.old }
     ensures { replied (heard_at s result) reply.new ≡ getstate_of s reply.old }
@@ -84,6 +86,7 @@ pub fn getstate(s: Session, reply: &mut [u8]) -> Heard
     stays(s, &bytes, reply)
 }
 
+#[tactic(auto, unfolding(crate::specs::Reply::query_of))]
 pub fn query(s: Session, reply: &mut [u8]) -> Heard
     requires { 1024 ≤ length reply.old }
     ensures { replied (heard_at s result) reply.new ≡ query_of s reply.old }

@@ -9,16 +9,18 @@ use answers::{Answer, Heard};
 use session::{Session, State, Talk};
 
 // Where the answer starts: an upload begun in state idle starts at the stream's first byte.
+#[tactic(auto, unfolding(crate::specs::Upload::place_of))]
 fn place(s: Session) -> u32
     ensures { result ≡ place_of s }
 {
-    if s.phase.state.0 == State::UPLOAD_IDLE {
+    if s.phase.state == State::UPLOAD_IDLE {
         return s.up.place;
     }
     0
 }
 
 // Whether the upload ends with this answer.
+#[tactic(auto, unfolding(crate::specs::Upload::upload_ends))]
 fn ends(asked: u32, given: u32) -> bool
     ensures { result ≡ upload_ends asked given }
 {
@@ -29,12 +31,13 @@ fn uploading(s: Session, place: u32) -> Talk
     ensures { with_talk s result ≡ uploading_at s place }
 {
     let mut t = answers::idle(s);
-    t.phase.state.0 = State::UPLOAD_IDLE;
+    t.phase.state = State::UPLOAD_IDLE;
     t.up.place = place;
     t
 }
 
 // The talk after `given` bytes from place `from` on were answered.
+#[tactic(auto, unfolding(crate::specs::Upload::uploaded_of))]
 fn uploaded(s: Session, asked: u32, from: u32, given: u32) -> Talk
     requires { (from ≡ place_of s) × (from + given < 2 ^ 32) }
     ensures { with_talk s result ≡ uploaded_of s asked given }

@@ -196,6 +196,6 @@ fn in_table(r: Request, s: State) -> bool
 pub fn allowed(r: Request, length: u32, s: State) -> bool
     ensures { result ≡ allowed_of r length s.0 }
 {
-    let empty = (row(r) == 0) & (s.0 == State::IDLE) & (length == 0);
+    let empty = (row(r) == 0) & (s == State::IDLE) & (length == 0);
     in_table(r, s) & !empty
 }

@@ -17,21 +17,21 @@ const PREFIX_LENGTH: u64 = 8;
 const INFO_LENGTH: u64 = 24;
 
 #[repr(C)]
-#[derive(Clone, Copy)]
+#[derive(Clone, Copy, PartialEq, Eq, Debug)]
 pub struct State(pub u8);
 
 impl State {
-    pub const IDLE: u8 = 2;
+    pub const IDLE: State = State(2);
 
-    pub const DOWNLOAD_SYNC: u8 = 3;
+    pub const DOWNLOAD_SYNC: State = State(3);
 
-    pub const DOWNLOAD_IDLE: u8 = 5;
+    pub const DOWNLOAD_IDLE: State = State(5);
 
-    pub const MANIFEST_SYNC: u8 = 6;
+    pub const MANIFEST_SYNC: State = State(6);
 
-    pub const UPLOAD_IDLE: u8 = 9;
+    pub const UPLOAD_IDLE: State = State(9);
 
-    pub const ERROR: u8 = 10;
+    pub const ERROR: State = State(10);
 
     // How many states there are.
     pub const COUNT: usize = 6;
@@ -40,8 +40,7 @@ impl State {
     pub fn column(self) -> usize
         ensures { result ≡ column_of self.0 }
     {
-        let state = self.0;
-        match state {
+        match self {
             State::IDLE => 0,
             State::DOWNLOAD_SYNC => 1,
             State::DOWNLOAD_IDLE => 2,
@@ -54,21 +53,21 @@ impl State {
 }
 
 #[repr(C)]
-#[derive(Clone, Copy)]
+#[derive(Clone, Copy, PartialEq, Eq, Debug)]
 pub struct Status(pub u8);
 
 impl Status {
-    pub const OK: u8 = 0x00;
+    pub const OK: Status = Status(0x00);
 
-    pub const CHECK_ERASED: u8 = 0x05;
+    pub const CHECK_ERASED: Status = Status(0x05);
 
-    pub const ADDRESS: u8 = 0x08;
+    pub const ADDRESS: Status = Status(0x08);
 
-    pub const NOT_DONE: u8 = 0x09;
+    pub const NOT_DONE: Status = Status(0x09);
 
-    pub const VENDOR: u8 = 0x0B;
+    pub const VENDOR: Status = Status(0x0B);
 
-    pub const STALLED: u8 = 0x0F;
+    pub const STALLED: Status = Status(0x0F);
 }
 
 // What a start was told: A, B and the part numbers.
@@ -194,9 +193,9 @@ pub fn fresh_talk(board: Board) -> Talk
     let len = end.start().0 - first.start().0;
     Talk {
         phase: Phase {
-            state: State(State::IDLE),
-            status: Status(Status::OK),
-            after: State(State::IDLE),
+            state: State::IDLE,
+            status: Status::OK,
+            after: State::IDLE,
         },
         down: Download {
             place: Addr(0),
@@ -284,21 +283,21 @@ fn state_rule(phase: Phase) -> bool
 fn status_rule(phase: Phase) -> bool
     ensures { result ≡ status_rule phase }
 {
-    let error = phase.state.0 == State::ERROR;
-    let known = (phase.status.0 == Status::CHECK_ERASED)
-        | (phase.status.0 == Status::ADDRESS)
-        | (phase.status.0 == Status::NOT_DONE)
-        | (phase.status.0 == Status::VENDOR)
-        | (phase.status.0 == Status::STALLED);
-    (error | (phase.status.0 == Status::OK)) & (!error | known)
+    let error = phase.state == State::ERROR;
+    let known = (phase.status == Status::CHECK_ERASED)
+        | (phase.status == Status::ADDRESS)
+        | (phase.status == Status::NOT_DONE)
+        | (phase.status == Status::VENDOR)
+        | (phase.status == Status::STALLED);
+    (error | (phase.status == Status::OK)) & (!error | known)
 }
 
 // Whether a download runs: its fields mean something.
 fn runs(phase: Phase) -> bool
     ensures { result ≡ running phase }
 {
-    (phase.state.0 == State::DOWNLOAD_IDLE)
-        | ((phase.state.0 == State::DOWNLOAD_SYNC) & (phase.after.0 == State::DOWNLOAD_IDLE))
+    (phase.state == State::DOWNLOAD_IDLE)
+        | ((phase.state == State::DOWNLOAD_SYNC) & (phase.after == State::DOWNLOAD_IDLE))
 }
 
 fn download_rule(phase: Phase, down: Download) -> bool
@@ -310,15 +309,15 @@ fn download_rule(phase: Phase, down: Download) -> bool
 fn upload_rule(phase: Phase, up: Upload) -> bool
     ensures { result ≡ upload_rule phase up }
 {
-    ((phase.state.0 == State::UPLOAD_IDLE) | (up.place == 0))
+    ((phase.state == State::UPLOAD_IDLE) | (up.place == 0))
         & ((up.place as u64) <= stream_length(up))
 }
 
 fn after_rule(phase: Phase) -> bool
     ensures { result ≡ after_rule phase }
 {
-    (phase.after.0 == State::IDLE)
-        | ((phase.state.0 == State::DOWNLOAD_SYNC) & (phase.after.0 == State::DOWNLOAD_IDLE))
+    (phase.after == State::IDLE)
+        | ((phase.state == State::DOWNLOAD_SYNC) & (phase.after == State::DOWNLOAD_IDLE))
 }
 
 // Whether `len` bytes from block `first` on are some and lie in the application. A broken session's blocks may be any.

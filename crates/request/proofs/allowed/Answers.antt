@@ -5,4 +5,4 @@ use Rattle.request.proofs.allowed.Goals as goal
 pub returns : goal.returns
 returns c =
     let args = c.args in
-    rw (c.in_table.ensures, c.row.ensures) (not_empty args.r args.length args.s.0)
+    rw (c.in_table.ensures, c.row.ensures, c.eq.ensures) (not_empty args.r args.length args.s.0)

@@ -15,6 +15,6 @@ returns c =
     let w = c.low3-wait.result in
     let made : List ℕ → ℕ → List ℕ = λ x e. (status ∷ []) ++ x ++ (e ∷ 0 ∷ []) in
     let reply = c.args.reply.now in
-    answered_at c.args.s _ (made (w.0 ∷ w.1 ∷ w.2 ∷ []) c.entered.result) _ _ _ _ c.answer.ensures.value
+    answered_at c.args.s _ (made (w.0 ∷ w.1 ∷ w.2 ∷ []) c.entered.result.0) _ _ _ _ c.answer.ensures.value
     c.answer.ensures.reply_after c.poll.ensures
     ∙ ap₂ (λ (x : List ℕ) (e : ℕ). answered (polled c.args.s) (made x e) reply) wait c.entered.ensures
