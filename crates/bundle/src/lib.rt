@@ -234,10 +234,10 @@ fn total_of(lengths: &[u64]) -> u64
 fn entry_bytes(entry: Entry) -> [u8; 8]
     ensures { result ≡ bytes4 entry.offset ++ bytes4 entry.length }
 {
-    let offset = numbers::low4(entry.offset);
-    let length = numbers::low4(entry.length);
+    let offset = numbers::low::<4>(entry.offset);
+    let length = numbers::low::<4>(entry.length);
     [
-        offset.0, offset.1, offset.2, offset.3, length.0, length.1, length.2, length.3,
+        offset[0], offset[1], offset[2], offset[3], length[0], length[1], length[2], length[3],
     ]
 }
 
@@ -267,8 +267,8 @@ fn lay(lengths: &[u64], images: &[u8], buffer: &mut [u8]) -> usize
     requires { Writable lengths.now images.now (length buffer.old) }
     ensures { Laid buffer.old buffer.new 0 result (bundle_of lengths.now images.now) }
 {
-    let count = numbers::low2(lengths.len() as u32);
-    pieces::put(&[count.0, count.1], buffer, 0);
+    let count = numbers::low::<2>(lengths.len() as u32);
+    pieces::put(&count, buffer, 0);
     let behind = lay_entries(lengths, buffer);
     pieces::put(images, buffer, behind)
 }

@@ -163,13 +163,13 @@ fn by_number(s: Session, flash: &[u8], d: &[u8]) -> Decision
     ensures { planned s result ≡ by_number (get_or d.now 0 0) s flash.now d.now }
 {
     let code = d[0];
-    let block = Block(numbers::word(d, 2));
+    let block = Block(numbers::word(d, 2) as u32);
     let len = numbers::long(d, 4);
     match code {
         Command::PROG => prog(s, flash, block, len, d.len() - 8),
         Command::READ => jobs::only(read(s, block, len)),
         Command::CHECK => check(s, flash, block, len),
-        Command::ERASE => erase(s, block, numbers::word(d, 4)),
+        Command::ERASE => erase(s, block, numbers::word(d, 4) as u32),
         Command::INFO => jobs::only(info(s)),
         Command::BIN => jobs::only(bin(s, d[1])),
         _ => jobs::only(answers::reset(s)),

@@ -65,12 +65,12 @@ pub fn getstatus(s: Session, reply: &mut [u8]) -> Heard
     requires { 1024 ≤ length reply.old }
     ensures { replied (heard_at s result) reply.new ≡ getstatus_of s reply.old }
 {
-    let wait = numbers::low3(poll_time(s));
+    let wait = numbers::low::<3>(poll_time(s));
     let bytes = [
         s.phase.status.0,
-        wait.0,
-        wait.1,
-        wait.2,
+        wait[0],
+        wait[1],
+        wait[2],
         entered(s.phase).0,
         0,
     ];

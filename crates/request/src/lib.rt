@@ -81,9 +81,9 @@ fn parts(setup: &[u8]) -> Setup
     }
     let kind = setup[0];
     let number = setup[1];
-    let value = numbers::word(setup, 2);
-    let index = numbers::word(setup, 4);
-    let length = numbers::word(setup, 6);
+    let value = numbers::word(setup, 2) as u32;
+    let index = numbers::word(setup, 4) as u32;
+    let length = numbers::word(setup, 6) as u32;
     Setup {
         kind: kind,
         number: number,

@@ -28,8 +28,7 @@ fn sum_of_sums(block: &[u32; MOST]) -> u32
     let mut sum = crc::START;
     let mut i = 0;
     while i < MOST {
-        let n = numbers::low4(block[i]);
-        let bytes = [n.0, n.1, n.2, n.3];
+        let bytes = numbers::low::<4>(block[i]);
         sum = crc::sum_from(sum, &bytes);
         i += 1;
     }

@@ -15,17 +15,17 @@ fn info(board: Board, unerased: u32) -> [u8; 24]
     requires { (start_of (app_end board) < 2 ^ 32) × (start_of board.a.0 < 2 ^ 32) }
     ensures { result ≡ info_stream board unerased }
 {
-    let size = numbers::low2(BLOCK);
-    let blocks = numbers::low2(board.b.0);
-    let part0 = numbers::low4(board.part0);
-    let part1 = numbers::low4(board.part1);
-    let end = numbers::low4(session::app_end(board).start().0);
-    let begin = numbers::low4(board.a.start().0);
-    let found = numbers::low4(unerased);
+    let size = numbers::low::<2>(BLOCK);
+    let blocks = numbers::low::<2>(board.b.0);
+    let part0 = numbers::low::<4>(board.part0);
+    let part1 = numbers::low::<4>(board.part1);
+    let end = numbers::low::<4>(session::app_end(board).start().0);
+    let begin = numbers::low::<4>(board.a.start().0);
+    let found = numbers::low::<4>(unerased);
     [
-        size.0, size.1, blocks.0, blocks.1, part0.0, part0.1, part0.2, part0.3, part1.0, part1.1,
-        part1.2, part1.3, end.0, end.1, end.2, end.3, begin.0, begin.1, begin.2, begin.3, found.0,
-        found.1, found.2, found.3,
+        size[0], size[1], blocks[0], blocks[1], part0[0], part0[1], part0[2], part0[3], part1[0],
+        part1[1], part1[2], part1[3], end[0], end[1], end[2], end[3], begin[0], begin[1], begin[2],
+        begin[3], found[0], found[1], found[2], found[3],
     ]
 }
 
@@ -33,17 +33,17 @@ fn info(board: Board, unerased: u32) -> [u8; 24]
 fn header(up: Upload) -> [u8; 8]
     ensures { result ≡ header_of up }
 {
-    let block = numbers::low2(up.first.0);
-    let len = numbers::low4(up.len);
+    let block = numbers::low::<2>(up.first.0);
+    let len = numbers::low::<4>(up.len);
     [
         Command::PROG,
         0,
-        block.0,
-        block.1,
-        len.0,
-        len.1,
-        len.2,
-        len.3,
+        block[0],
+        block[1],
+        len[0],
+        len[1],
+        len[2],
+        len[3],
     ]
 }
 

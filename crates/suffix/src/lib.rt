@@ -63,7 +63,7 @@ fn versioned(file: &[u8], at: usize) -> bool
     requires { StandsAt file.now at }
     ensures { result ≡ versioned_at file.now at }
 {
-    numbers::word(file, at + 6) == VERSION
+    u32::from(numbers::word(file, at + 6)) == VERSION
 }
 
 fn summed(file: &[u8], at: usize) -> bool
@@ -79,9 +79,9 @@ fn parts_at(file: &[u8], at: usize) -> Parts
     ensures { result ≡ parts_at file.now at }
 {
     Parts {
-        device: numbers::word(file, at) as u16,
-        product: numbers::word(file, at + 2) as u16,
-        vendor: numbers::word(file, at + 4) as u16,
+        device: numbers::word(file, at),
+        product: numbers::word(file, at + 2),
+        vendor: numbers::word(file, at + 4),
     }
 }
 
@@ -147,19 +147,19 @@ pub fn number(reading: Reading) -> u16
 fn front(parts: Parts) -> [u8; 12]
     ensures { result ≡ front_of parts }
 {
-    let device = numbers::low2(parts.device as u32);
-    let product = numbers::low2(parts.product as u32);
-    let vendor = numbers::low2(parts.vendor as u32);
-    let version = numbers::low2(VERSION);
+    let device = numbers::low::<2>(parts.device as u32);
+    let product = numbers::low::<2>(parts.product as u32);
+    let vendor = numbers::low::<2>(parts.vendor as u32);
+    let version = numbers::low::<2>(VERSION);
     [
-        device.0,
-        device.1,
-        product.0,
-        product.1,
-        vendor.0,
-        vendor.1,
-        version.0,
-        version.1,
+        device[0],
+        device[1],
+        product[0],
+        product[1],
+        vendor[0],
+        vendor[1],
+        version[0],
+        version[1],
         SIGNATURE[0],
         SIGNATURE[1],
         SIGNATURE[2],
@@ -171,8 +171,7 @@ fn front(parts: Parts) -> [u8; 12]
 fn sum_bytes(file: &[u8], front: &[u8]) -> [u8; 4]
     ensures { result ≡ sum_bytes (file.now ++ front.now) }
 {
-    let sum = numbers::low4(crc::sum_from(crc::sum(file), front));
-    [sum.0, sum.1, sum.2, sum.3]
+    numbers::low(crc::sum_from(crc::sum(file), front))
 }
 
 fn lay(file: &[u8], parts: Parts, buffer: &mut [u8])

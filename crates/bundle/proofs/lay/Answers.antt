@@ -36,4 +36,4 @@ put-requires-2 c =
     )
 
 pub returns : goal.returns
-returns c = laid_bundle _ _ _ _ _ _ _ _ _ _ c.low2-count.ensures c.put.ensures c.lay_entries-behind.ensures c.put-2.ensures
+returns c = laid_bundle _ _ _ _ _ _ _ _ _ _ c.low-count.ensures c.put.ensures c.lay_entries-behind.ensures c.put-2.ensures

@@ -8,17 +8,17 @@ pub returns-then-file-lt-COUNT : goal.returns-then-file-lt-COUNT
 returns-then-file-lt-COUNT c = sym (at_short _ c.if-file-lt-COUNT.true)
 
 pub returns-then-not-can_count : goal.returns-then-not-can_count
-returns-then-not-can_count c = sym (at_count _ _ c.if-file-lt-COUNT.false c.word-count.ensures.0 (sym c.can_count.ensures ∙ c.if-not-can_count.true))
+returns-then-not-can_count c = sym (at_count _ _ c.if-file-lt-COUNT.false c.word-count.ensures (sym c.can_count.ensures ∙ c.if-not-can_count.true))
 
 pub returns-then-file-head : goal.returns-then-file-head
 returns-then-file-head c =
-    sym (at_table _ _ c.if-file-lt-COUNT.false c.word-count.ensures.0
+    sym (at_table _ _ c.if-file-lt-COUNT.false c.word-count.ensures
     (sym c.can_count.ensures ∙ c.if-not-can_count.false)
     (omega (arith, c.if-file-head.true, c.head.ensures)))
 
 pub returns : goal.returns
 returns c =
     c.read_entries.ensures
-    ∙ sym (at_entries _ _ c.if-file-lt-COUNT.false c.word-count.ensures.0
+    ∙ sym (at_entries _ _ c.if-file-lt-COUNT.false c.word-count.ensures
     (sym c.can_count.ensures ∙ c.if-not-can_count.false)
     (omega (arith, c.if-file-head.false, c.head.ensures)))

@@ -15,13 +15,13 @@ unfolding by_number
 returns-in-1 c =
     let len = length c.args.d.now - 8 in
     c.prog.ensures
-    ∙ ap₂ (λ (x y : ℕ). prog_of c.args.s c.args.flash.now x y len) c.word.ensures.0 c.long-len.ensures
+    ∙ ap₂ (λ (x y : ℕ). prog_of c.args.s c.args.flash.now x y len) c.word.ensures c.long-len.ensures
     ∙ sym (ap (λ (k : ℕ). by_number k c.args.s c.args.flash.now c.args.d.now) c.in-1.is)
 
 pub returns-in-2 : goal.returns-in-2
 unfolding by_number
 returns-in-2 c =
-    let told = c.read.ensures ∙ ap₂ (read_of c.args.s) c.word.ensures.0 c.long-len.ensures in
+    let told = c.read.ensures ∙ ap₂ (read_of c.args.s) c.word.ensures c.long-len.ensures in
     only_at c.args.s _ _ _ c.only.ensures told
     ∙ sym (ap (λ (k : ℕ). by_number k c.args.s c.args.flash.now c.args.d.now) c.in-2.is)
 
@@ -29,14 +29,14 @@ pub returns-in-3 : goal.returns-in-3
 unfolding by_number
 returns-in-3 c =
     c.check.ensures
-    ∙ ap₂ (λ (x y : ℕ). plan_of (check_of c.args.s c.args.flash.now x y) Job.Nothing) c.word.ensures.0 c.long-len.ensures
+    ∙ ap₂ (λ (x y : ℕ). plan_of (check_of c.args.s c.args.flash.now x y) Job.Nothing) c.word.ensures c.long-len.ensures
     ∙ sym (ap (λ (k : ℕ). by_number k c.args.s c.args.flash.now c.args.d.now) c.in-3.is)
 
 pub returns-in-4 : goal.returns-in-4
 unfolding by_number
 returns-in-4 c =
     c.erase.ensures
-    ∙ ap₂ (erase_of c.args.s) c.word.ensures.0 c.word-in-4.ensures.0
+    ∙ ap₂ (erase_of c.args.s) c.word.ensures c.word-in-4.ensures
     ∙ sym (ap (λ (k : ℕ). by_number k c.args.s c.args.flash.now c.args.d.now) c.in-4.is)
 
 pub returns-in-5 : goal.returns-in-5

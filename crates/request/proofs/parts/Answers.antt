@@ -12,7 +12,7 @@ unfolding setup_of
 returns c =
     rw (
       eq-eqb _ _ c.if-setup-ne8.false,
-      c.word-value.ensures.0,
-      c.word-index.ensures.0,
-      c.word-length.ensures.0,
+      c.word-value.ensures,
+      c.word-index.ensures,
+      c.word-length.ensures,
     )

@@ -1,13 +1,8 @@
--- The bytes are those that `low2` answers, four numbers and the mark end to end. Assumes nothing.
-use mathlib.Core.List.{◌++◌}
-use mathlib.Core.Path.{refl, ap₂}
+-- The bytes are those that `low` answers, four numbers and the mark end to end. Assumes nothing.
+use mathlib.Core.Path.{refl}
 use Rattle.suffix.specs.Suffix.{front_of}
 use Rattle.suffix.proofs.front.Goals as goal
 
 pub returns : goal.returns
 unfolding front_of
-returns c =
-    let numbers =
-    ap₂ ◌++◌ (ap₂ ◌++◌ (ap₂ ◌++◌ c.low2-device.ensures c.low2-product.ensures) c.low2-vendor.ensures) c.low2-version.ensures
-    in
-    ap₂ ◌++◌ numbers refl
+returns c = rw (c.low-device.ensures, c.low-product.ensures, c.low-vendor.ensures, c.low-version.ensures) refl

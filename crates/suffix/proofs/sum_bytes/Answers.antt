@@ -9,5 +9,5 @@ use Rattle.suffix.proofs.sum_bytes.Goals as goal
 pub returns : goal.returns
 unfolding sum_bytes
 returns c =
-    c.low4-sum.ensures
+    c.low.ensures
     ∙ ap (λ (s : ℕ). bytes4 s) (c.sum_from.ensures ∙ crc_of-append _ _ _ c.sum.ensures)

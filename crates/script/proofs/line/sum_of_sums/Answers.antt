@@ -12,7 +12,7 @@ loop-i-init c = (omega arith, refl)
 
 pub loop-i-preserved : goal.loop-i-preserved
 loop-i-preserved c =
-    let summed = c.sum_from-sum.ensures ∙ ap (crc_from c.loop-i.sum) c.low4-n.ensures in
+    let summed = c.sum_from-sum.ensures ∙ ap (crc_from c.loop-i.sum) c.low-bytes.ensures in
     (omega arith, next_sum c.loop-i.sum _ _ c.loop-i.i most_blocks (omega arith) summed ∙ c.loop-i.invariant.1)
 
 pub returns : goal.returns

@@ -13,9 +13,9 @@ returns-then-rest-ends c = sym (cut_in_setup _ (omega arith))
 pub returns-then-rest-next : goal.returns-then-rest-next
 returns-then-rest-next c =
     let ends = c.setup_end-ends.ensures in
-    sym (cut_in_data _ _ _ ends c.word.ensures.0 (omega arith) (omega arith))
+    sym (cut_in_data _ _ _ ends c.word.ensures (omega arith) (omega arith))
 
 pub returns : goal.returns
 returns c =
     let ends = c.setup_end-ends.ensures in
-    sym (whole_record _ _ _ ends c.word.ensures.0 (omega arith) (omega arith))
+    sym (whole_record _ _ _ ends c.word.ensures (omega arith) (omega arith))
