@@ -9,7 +9,8 @@ use borrow.Author.Tests.{leb-true, eqb-false, ne_eqb}
 use lib.Dec.{eqb, leb}
 use lib.ListN.{length, get_or, drop, length-drop}
 use Rattle.flash.specs.Flash.{start_of, Within, searched, nothing, found_number}
-use Rattle.flash.specs.declared.Found.{Found}
+use Rattle.flash.specs.declared.Addr.{Addr}
+use Rattle.std.proofs.Common.{Option}
 use Rattle.sums.specs.Sum.{Split}
 use Rattle.session.specs.Codes.{idle, download_idle, check_erased, address, vendor}
 use Rattle.session.specs.Session.{app_end, no_download, with_unerased, fresh_of}
@@ -48,7 +49,7 @@ module _ (s : Session) (f : List ℕ) (r : Ready s f) where
 
 -- what a search of a range tells, from its answer, whether that was nothing, and its number
 module _
-    (f : List ℕ) (block len : ℕ) (found : Found) (e : found ≡ searched f block len) (r : Bool) (h : r ≡ nothing found) (m : ℕ)
+    (f : List ℕ) (block len : ℕ) (found : Option Addr) (e : found ≡ searched f block len) (r : Bool) (h : r ≡ nothing found) (m : ℕ)
     (k : m ≡ found_number found) where
   pub told-erased : r ≡ all_erased f block len
   unfolding all_erased

@@ -52,8 +52,8 @@ fn if_erased(s: Session, flash: &[u8], block: Block, len: u32, x: Decision) -> D
     ensures { planned s result ≡ if_erased s flash.now block.0 len (planned s x) }
 {
     let found = flash::search(flash, block, len);
-    let number = found.number();
-    if !found.nothing() {
+    let number = flash::found_number(found);
+    if found.is_some() {
         let mut refused = fault(s, Status::CHECK_ERASED);
         refused.heard.talk.unerased = number;
         return refused;

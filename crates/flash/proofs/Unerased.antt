@@ -14,7 +14,7 @@ use Rattle.numbers.specs.Numbers.{long_at, bytes4}
 use Rattle.numbers.proofs.Laws.{long_taken, long_fits}
 use Rattle.flash.specs.Flash.{first_in, searched, nothing, nowhere, found_number, range, blank, start_of, Within, eight_at, Passed}
 use Rattle.flash.specs.declared.Addr.{Addr}
-use Rattle.flash.specs.declared.Found.{Found}
+use Rattle.std.proofs.Common.{Some, None}
 use Rattle.flash.proofs.Laws.{length-range}
 use Rattle.flash.proofs.Writing.{blank_byte}
 
@@ -97,13 +97,13 @@ module _ (f : List ℕ) (from n : ℕ) (h : from + n ≤ length f) where
   module _ (start : ℕ) (e : from ≡ start) where
     pub ahead_found :
         (at : ℕ) → at < from + n → (get_or f at 0 ≡ 255 → ⊥) → Ahead f from n at
-        → Found.At (record { 0 = at }) ≡ first_in start (range f start n)
+        → Some (record { 0 = at }) ≡ first_in start (range f start n)
     unfolding first_in
     ahead_found at lt ne a =
         sym (a.same ∙ ap (first_in at) (byte_at at a.low lt) ∙ rw (ne_eqb (get_or f at 0) 255 ne))
         ∙ ap (λ (k : ℕ). first_in k (range f k n)) e
 
-    pub ahead_none : (at : ℕ) → from + n ≤ at → Ahead f from n at → Found.Nothing ≡ first_in start (range f start n)
+    pub ahead_none : (at : ℕ) → from + n ≤ at → Ahead f from n at → None ≡ first_in start (range f start n)
     unfolding first_in
     ahead_none at le a =
         let past : at - from ≡ length (range f from n) = omega (arith, length-range f from n h, a.low, a.high) in
@@ -142,7 +142,7 @@ module _ (f : List ℕ) (from n : ℕ) (h : from + n ≤ length f) where
 
   pub first_found :
       (at : ℕ) → from ≤ at → at < from + n → (get_or f at 0 ≡ 255 → ⊥) → ((j : ℕ) → from ≤ j → j < at → get_or f j 0 ≡ 255)
-      → first_in from (range f from n) ≡ Found.At (record { 0 = at })
+      → first_in from (range f from n) ≡ Some (record { 0 = at })
   first_found at low lt ne erased =
       let each = at - from in
       sym
@@ -150,26 +150,26 @@ module _ (f : List ℕ) (from n : ℕ) (h : from + n ≤ length f) where
       (ahead_each each (omega arith) (λ j h k. erased j h (omega arith)) each at (omega arith) (omega arith)))
 
 -- nothing found: all bytes are erased
-all_erased_lem : (at : ℕ) (xs : List ℕ) → first_in at xs ≡ Found.Nothing → xs ≡ blank (length xs)
+all_erased_lem : (at : ℕ) (xs : List ℕ) → first_in at xs ≡ None → xs ≡ blank (length xs)
 unfolding first_in blank
 all_erased_lem at [] e = refl
 all_erased_lem at (x ∷ xs) e =
     elim (ℕ_discrete x 255) [
       | yes q ↦
           (let here = eq-eqb x 255 q in
-          let rest : first_in (at + 1) xs ≡ Found.Nothing = sym (rw here) ∙ e in
+          let rest : first_in (at + 1) xs ≡ None = sym (rw here) ∙ e in
           let more = all_erased_lem (at + 1) xs rest in
           ap (λ (b : ℕ). b ∷ xs) q ∙ ap (λ (l : List ℕ). 255 ∷ l) more)
       | no q ↦
           (let here = ne_eqb x 255 q in
-          let found : first_in at (x ∷ xs) ≡ Found.At (record { 0 = at }) = rw here in
+          let found : first_in at (x ∷ xs) ≡ Some (record { 0 = at }) = rw here in
           let z : ◌≡◌ {A = ℕ} 0 1 = cc in
           let no : ⊥ = omega arith in
           absurd no)
     ]
 
 -- something found: its address is one of the range's
-first_below : (at : ℕ) (xs : List ℕ) (k : Addr) → first_in at xs ≡ Found.At k → k.0 < at + length xs
+first_below : (at : ℕ) (xs : List ℕ) (k : Addr) → first_in at xs ≡ Some k → k.0 < at + length xs
 unfolding first_in
 first_below at [] k e = absurd (false≢true (sym (ap nothing e)))
 first_below at (x ∷ xs) k e =
@@ -179,32 +179,32 @@ first_below at (x ∷ xs) k e =
           let rest = first_below (at + 1) xs k (sym past ∙ e) in
           omega (arith, rest))
       | no q ↦
-          (let found : first_in at (x ∷ xs) ≡ Found.At (record { 0 = at }) = rw (ne_eqb x 255 q) in
+          (let found : first_in at (x ∷ xs) ≡ Some (record { 0 = at }) = rw (ne_eqb x 255 q) in
           let here : at ≡ k.0 = ap found_number (sym found ∙ e) in
           omega (arith, here))
     ]
 
 -- so its number isn't the one that says there is none
 pub found_below :
-    (f : List ℕ) (first n : ℕ) → Within f (start_of first) n → (k : Addr) → searched f first n ≡ Found.At k → k.0 < nowhere
+    (f : List ℕ) (first n : ℕ) → Within f (start_of first) n → (k : Addr) → searched f first n ≡ Some k → k.0 < nowhere
 unfolding searched
 found_below f first n w k e =
     let below = first_below (start_of first) (range f (start_of first) n) k e in
     omega (arith, below, length-range f (start_of first) n w.inside, w.addressed)
 
-blank-nothing : (at n : ℕ) → first_in at (blank n) ≡ Found.Nothing
+blank-nothing : (at n : ℕ) → first_in at (blank n) ≡ None
 unfolding first_in blank
 blank-nothing at zero = refl
 blank-nothing at (suc n) = blank-nothing (at + 1) n
 
 -- the search finds nothing exactly if the range is all erased
 pub nothing-blank :
-    (f : List ℕ) (first n : ℕ) → start_of first + n ≤ length f → searched f first n ≡ Found.Nothing
+    (f : List ℕ) (first n : ℕ) → start_of first + n ≤ length f → searched f first n ≡ None
     → range f (start_of first) n ≡ blank n
 unfolding searched
 nothing-blank f first n h e =
     all_erased_lem (start_of first) (range f (start_of first) n) e ∙ ap blank (length-range f (start_of first) n h)
 
-pub blank-searched : (f : List ℕ) (first n : ℕ) → range f (start_of first) n ≡ blank n → searched f first n ≡ Found.Nothing
+pub blank-searched : (f : List ℕ) (first n : ℕ) → range f (start_of first) n ≡ blank n → searched f first n ≡ None
 unfolding searched
 blank-searched f first n e = ap (first_in (start_of first)) e ∙ blank-nothing (start_of first) n

@@ -1,8 +1,7 @@
 -- Flash as a list of bytes, and what erasing, programming and searching leave of it or find in it.
-use Rattle.std.specs.Prelude.{ℕ, ◌+◌, ◌-◌, ◌*◌, ◌/◌, ◌^◌, ◌≤◌, ◌<◌, Bool, true, false, cond, ◌&&◌, ◌≡◌, List, [], ◌∷◌, ◌++◌, ltb, leb, eqb, length, take, drop, replicate, set}
+use Rattle.std.specs.Prelude.{ℕ, ◌+◌, ◌-◌, ◌*◌, ◌/◌, ◌^◌, ◌≤◌, ◌<◌, Bool, cond, ◌&&◌, ◌≡◌, List, [], ◌∷◌, ◌++◌, ltb, leb, eqb, length, take, drop, replicate, set, Option, Some, None, is_none}
 use Rattle.numbers.specs.Numbers.{long_at}
-use Rattle.flash.specs.declared.Reach.{Reach}
-use Rattle.flash.specs.declared.Found.{Found}
+use Rattle.flash.specs.declared.Addr.{Addr}
 
 -- the bytes of a block
 abbrev pub block_size : ℕ
@@ -20,9 +19,9 @@ start_of block = block * block_size
 abbrev pub in_reach : ℕ → Bool
 in_reach block = ltb (start_of block) (2 ^ 32)
 
--- the checked conversion: a block in reach is at its address, any other is past all of them
-abbrev pub reach_of : ℕ → Reach
-reach_of block = cond (in_reach block) (Reach.At (record { 0 = start_of block })) Reach.Past
+-- the checked conversion: a block in reach has its address, any other has none
+abbrev pub reach_of : ℕ → Option Addr
+reach_of block = cond (in_reach block) (Some (record { 0 = start_of block })) None
 
 -- whether the n bytes from address at on lie in blocks first to stop − 1; out of reach is out of range
 abbrev pub lies_in : ℕ → ℕ → ℕ → ℕ → Bool
@@ -63,17 +62,16 @@ unfoldable pub erased : List ℕ → ℕ → ℕ → List ℕ
 erased flash first count = spliced flash (start_of first) (blank (start_of count))
 
 -- whether a search found nothing
-abbrev pub nothing : Found → Bool
-nothing (Found.At at) = false
-nothing Found.Nothing = true
+abbrev pub nothing : Option Addr → Bool
+nothing found = is_none found
 
 -- the first of some bytes that is not erased, where the first of them has address at
-unfoldable pub first_in : ℕ → List ℕ → Found
-first_in at [] = Found.Nothing
-first_in at (b ∷ bs) = cond (eqb b erased_byte) (first_in (at + 1) bs) (Found.At (record { 0 = at }))
+unfoldable pub first_in : ℕ → List ℕ → Option Addr
+first_in at [] = None
+first_in at (b ∷ bs) = cond (eqb b erased_byte) (first_in (at + 1) bs) (Some (record { 0 = at }))
 
 -- the first byte that is not erased among the n bytes from block first on
-unfoldable pub searched : List ℕ → ℕ → ℕ → Found
+unfoldable pub searched : List ℕ → ℕ → ℕ → Option Addr
 searched flash first n = first_in (start_of first) (range flash (start_of first) n)
 
 -- the number that says there is none
@@ -81,9 +79,9 @@ abbrev pub nowhere : ℕ
 nowhere = 0xFFFFFFFF
 
 -- the number of what a search found: the address, or that there is none
-abbrev pub found_number : Found → ℕ
-found_number (Found.At at) = at.0
-found_number Found.Nothing = nowhere
+abbrev pub found_number : Option Addr → ℕ
+found_number (Some at) = at.0
+found_number None = nowhere
 
 -- the eight bytes from address at on as one number, low byte first
 abbrev pub eight_at : List ℕ → ℕ → ℕ

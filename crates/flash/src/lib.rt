@@ -4,7 +4,7 @@
 
 ghost use Rattle.std.specs.Prelude.{◌+◌, ◌<◌, ◌≤◌, ◌^◌, ◌≡◌, length, set};
 ghost use Rattle.flash.specs.Flash.{start_of, reach_of, lies_in, ends_at, holder_of, Within};
-ghost use Rattle.flash.specs.Flash.{blank, spliced, erased, range, first_in, searched, nothing, found_number, eight_at, Passed};
+ghost use Rattle.flash.specs.Flash.{blank, spliced, erased, range, first_in, searched, found_number, eight_at, Passed};
 
 // The bytes of a block.
 pub const BLOCK: u32 = 1024;
@@ -31,31 +31,16 @@ pub struct Block(pub u32);
 #[derive(Clone, Copy)]
 pub struct Addr(pub u32);
 
-// Where a block begins, if a 32-bit address can say so.
-#[derive(Clone, Copy)]
-pub enum Reach {
-    At(Addr),
-    Past,
-}
-
-// What a search for a byte that is not erased comes back with.
-#[derive(Clone, Copy)]
-pub enum Found {
-    At(Addr),
-    Nothing,
-}
+// The number that says that a search found no address. No flash has a byte there: its length would not be a 32-bit number.
+pub const NOWHERE: u32 = 0xFFFF_FFFF;
 
 impl Block {
-    // The one way from a block number to an address: 4,194,304 blocks are 4 GiB, so the product can't wrap.
-    pub fn address(self) -> Reach
+    // Where the block begins, if a 32-bit address can say so. The one way from a block number to an address: 4,194,304 blocks are 4 GiB,
+    // so the product can't wrap.
+    pub fn address(self) -> Option<Addr>
         ensures { result ≡ reach_of self.0 }
     {
-        let n = self.0;
-        if n < 4_194_304 {
-            Reach::At(Addr(n * BLOCK))
-        } else {
-            Reach::Past
-        }
+        self.0.checked_mul(BLOCK).map(Addr)
     }
 
     // Where a block starts that can't be out of reach.
@@ -63,20 +48,14 @@ impl Block {
         requires { start_of self.0 < 2 ^ 32 }
         ensures { result.0 ≡ start_of self.0 }
     {
-        match self.address() {
-            Reach::At(at) => at,
-            Reach::Past => Addr(0),
-        }
+        self.address().unwrap_or(Addr(0))
     }
 
     // Whether a flash of `len` bytes ends where this block starts.
     pub fn ends(self, len: usize) -> bool
         ensures { result ≡ ends_at self.0 len }
     {
-        match self.address() {
-            Reach::At(at) => len == at.0 as usize,
-            Reach::Past => false,
-        }
+        self.address().is_some_and(|at| len == at.0 as usize)
     }
 }
 
@@ -92,38 +71,21 @@ impl Addr {
     pub fn lies_in(self, n: u32, first: Block, stop: Block) -> bool
         ensures { result ≡ lies_in self.0 n first.0 stop.0 }
     {
-        let Reach::At(low) = first.address() else {
+        let Some(low) = first.address() else {
             return false;
         };
-        let Reach::At(high) = stop.address() else {
+        let Some(high) = stop.address() else {
             return false;
         };
         (low.0 <= self.0) & ((self.0 as u64) + (n as u64) <= high.0 as u64)
     }
 }
 
-impl Found {
-    // The number that says there is none. No flash has a byte at this address: its length would not be a 32-bit number.
-    pub const NOWHERE: u32 = 0xFFFF_FFFF;
-
-    pub fn nothing(self) -> bool
-        ensures { result ≡ nothing self }
-    {
-        match self {
-            Found::At(_) => false,
-            Found::Nothing => true,
-        }
-    }
-
-    // What was found as one number, to be kept and told.
-    pub fn number(self) -> u32
-        ensures { result ≡ found_number self }
-    {
-        match self {
-            Found::At(at) => at.0,
-            Found::Nothing => Found::NOWHERE,
-        }
-    }
+// What a search found as one number, to be kept and told.
+pub fn found_number(found: Option<Addr>) -> u32
+    ensures { result ≡ found_number found }
+{
+    found.map_or(NOWHERE, |at| at.0)
 }
 
 // Every byte of flash that changes, changes here.
@@ -202,13 +164,13 @@ fn past_eights(flash: &[u8], from: usize, to: usize) -> usize
 
 // The walk over blocks and the walk over a block's bytes are left together, at the first byte that is not erased. Eight bytes at a time
 // are quicker passed over, but which of them it is only a single one can tell.
-fn search_from(flash: &[u8], from: Addr, n: u32) -> Found
+fn search_from(flash: &[u8], from: Addr, n: u32) -> Option<Addr>
     requires { Within flash.now from.0 n }
     ensures { result ≡ first_in from.0 (range flash.now from.0 n) }
 {
     let mut at = from.0 as usize;
     let end = at + n as usize;
-    let mut found = Found::Nothing;
+    let mut found = None;
     'search: while at < end {
         let mut stop = at + BLOCK as usize;
         if end < stop {
@@ -217,7 +179,7 @@ fn search_from(flash: &[u8], from: Addr, n: u32) -> Found
         at = past_eights(flash, at, stop);
         while at < stop {
             if flash[at] != ERASED {
-                found = Found::At(Addr(at as u32));
+                found = Some(Addr(at as u32));
                 break 'search;
             }
             at += 1;
@@ -227,7 +189,7 @@ fn search_from(flash: &[u8], from: Addr, n: u32) -> Found
 }
 
 // The first byte that is not erased among the n bytes from block `first` on.
-pub fn search(flash: &[u8], first: Block, n: u32) -> Found
+pub fn search(flash: &[u8], first: Block, n: u32) -> Option<Addr>
     requires { Within flash.now (start_of first.0) n }
     ensures { result ≡ searched flash.now first.0 n }
 {

@@ -9,10 +9,8 @@ use mathlib.Core.List.{List, [], ◌∷◌, map}
 use lib.Dec.{eqb, leb, ltb}
 use lib.ListN.{length, get_or}
 use borrow.Author.Tests.{eqb-true, eqb-false, leb-true, ltb-true, eq-eqb, ne_eqb, le-leb, lt-ltb, le-ltb}
-use Rattle.flash.specs.Flash.{block_size, start_of, in_reach, reach_of, lies_in}
-use Rattle.flash.specs.declared.Addr.{Addr}
-use Rattle.flash.specs.declared.Reach.{Reach}
-use Rattle.flash.proofs.Reaching.{reached_in, reached, lies_facts, facts_lie}
+use Rattle.flash.specs.Flash.{block_size, start_of, in_reach, lies_in}
+use Rattle.flash.proofs.Reaching.{lies_facts, facts_lie}
 use Rattle.sums.specs.declared.Sums.{Sums}
 use Rattle.sums.specs.Sum.{most_blocks}
 use Rattle.session.specs.declared.Board.{Board}
@@ -250,13 +248,6 @@ module _ (b : Board) (first len : ℕ) where
         lt-ltb 0 len i.some,
         facts_lie (start_of first) len b.a.0 (app_end b) (omega (arith, i.from)) i.to near,
       )
-
--- whether a range lies in the application, by its first address
-pub range_lies :
-    (b : Board) (first len : ℕ) (r : Reach) (at : Addr) (end : ℕ) (t : Bool)
-    → r ≡ Reach.At at → r ≡ reach_of first → end ≡ app_end b → t ≡ lies_in at.0 len b.a.0 end
-    → (ltb 0 len && t) ≡ in_application b first len
-range_lies b first len r at end t e q f g = rw (g, f, reached_in first r at e q, reached first r at e q)
 
 -- what the rules of the upload say
 module _ (b : Board) (p : Phase) (u : Upload) where

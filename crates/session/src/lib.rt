@@ -8,7 +8,7 @@ ghost use Rattle.session.specs.Session.{allowed_split, board_of, app_end, stream
 ghost use Rattle.session.specs.Rules.{state_rule, status_rule, running, download_rule, upload_rule};
 ghost use Rattle.session.specs.Rules.{after_rule, in_application, range_rule, place_rule, flags_rule, fit_of};
 
-use flash::{Addr, Block, Found, Reach};
+use flash::{Addr, Block};
 use sums::{MOST, Sums};
 
 // The bytes of the prefix, and how many the info bytes are.
@@ -208,7 +208,7 @@ pub fn fresh_talk(board: Board) -> Talk
             len: len,
             place: 0,
         },
-        unerased: Found::NOWHERE,
+        unerased: flash::NOWHERE,
     }
 }
 
@@ -324,7 +324,7 @@ fn after_rule(phase: Phase) -> bool
 pub fn in_application(board: Board, first: Block, len: u32) -> bool
     ensures { result ≡ in_application board first.0 len }
 {
-    let Reach::At(at) = first.address() else {
+    let Some(at) = first.address() else {
         return false;
     };
     (0 < len) & at.lies_in(len, board.a, app_end(board))

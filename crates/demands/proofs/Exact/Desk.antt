@@ -8,7 +8,7 @@ use native.Mathlib.Omega.{arith}
 use lib.ListN.{length, get_or, drop}
 use borrow.Author.Tests.{eq-eqb}
 use Rattle.flash.specs.Flash.{start_of, blank, searched, found_number}
-use Rattle.flash.specs.declared.Found.{Found}
+use Rattle.std.proofs.Common.{None}
 use Rattle.flash.proofs.Laws.{length-blank, spliced-length}
 use Rattle.sums.specs.Sum.{refreshed, fresh_sums}
 use Rattle.sums.specs.declared.Sums.{Sums}
@@ -90,7 +90,7 @@ module _ (p q : ℕ) (f buffer : List ℕ) (sized : length f ≡ start_of 64) (r
   w_erased : (block n : ℕ) → 16 ≤ block → start_of block + n ≤ start_of 64 → all_erased w block n ≡ true
   w_erased block n low high = erased_part f 16 48 block n (omega arith) low (omega arith)
 
-  w_found : (block n : ℕ) → 16 ≤ block → start_of block + n ≤ start_of 64 → searched w block n ≡ Found.Nothing
+  w_found : (block n : ℕ) → 16 ≤ block → start_of block + n ≤ start_of 64 → searched w block n ≡ None
   w_found block n low high = none_found (site (held 2 0 2 0 0 (fresh_sums f 16 64)) w) block n (w_erased block n low high)
 
   z_unerased : all_erased z 16 1024 ≡ false

@@ -4,7 +4,7 @@ use mathlib.Core.Path.{◌≡◌, refl, sym, ap, ◌∙◌}
 use native.Mathlib.Omega.{arith}
 use Rattle.flash.specs.Flash.{searched, nowhere, found_number}
 use Rattle.flash.specs.declared.Addr.{Addr}
-use Rattle.flash.specs.declared.Found.{Found}
+use Rattle.std.proofs.Common.{Option, Some, None}
 use Rattle.flash.proofs.Unerased.{found_below}
 use Rattle.session.specs.Session.{talk_of}
 use Rattle.answers.specs.declared.Answer.{Answer}
@@ -41,12 +41,12 @@ told o = heard o.answer o.count (talk_of o.session)
 
 -- an address that was found isn't the number that says there is none
 found_told :
-    (x y : Found) → ((k : Addr) → x ≡ Found.At k → k.0 < nowhere) → ((k : Addr) → y ≡ Found.At k → k.0 < nowhere)
+    (x y : Option Addr) → ((k : Addr) → x ≡ Some k → k.0 < nowhere) → ((k : Addr) → y ≡ Some k → k.0 < nowhere)
     → found_number x ≡ found_number y → x ≡ y
-found_told (Found.At j) (Found.At k) p q e = ap (λ (n : ℕ). Found.At (record { 0 = n })) e
-found_told (Found.At j) Found.Nothing p q e = absurd (omega (arith, p j refl, e))
-found_told Found.Nothing (Found.At k) p q e = absurd (omega (arith, q k refl, e))
-found_told Found.Nothing Found.Nothing p q e = refl
+found_told (Some j) (Some k) p q e = ap (λ (n : ℕ). Some (record { 0 = n })) e
+found_told (Some j) None p q e = absurd (omega (arith, p j refl, e))
+found_told None (Some k) p q e = absurd (omega (arith, q k refl, e))
+found_told None None p q e = refl
 
 pub OneOutcome_holds : OneOutcome
 unfolding told

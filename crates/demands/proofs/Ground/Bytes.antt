@@ -8,7 +8,8 @@ use native.Mathlib.Omega.{arith}
 use lib.ListN.{length, take, drop, get_or, get_or-replicate, take-append-drop}
 use lib.Seq.{get_or-take, get_or-drop, ext_get_or}
 use Rattle.flash.specs.Flash.{start_of, range, spliced, blank, erased, searched, nothing}
-use Rattle.flash.specs.declared.Found.{Found}
+use Rattle.flash.specs.declared.Addr.{Addr}
+use Rattle.std.proofs.Common.{Option, Some, None}
 use Rattle.flash.proofs.Laws.{length-blank, length-range, spliced-length, spliced-range, spliced_other}
 use Rattle.flash.proofs.Unerased.{nothing-blank, blank-searched}
 use Rattle.command.specs.Download.{all_erased}
@@ -61,9 +62,9 @@ module _ (f : List ℕ) (first count : ℕ) (h : start_of first + start_of count
       spliced_other f (start_of first) (blank (start_of count)) fits k
       (⊎_elim (λ l. inl l) (λ l. inr (omega arith)) o)
 
-pub nothing_is : (x : Found) → nothing x ≡ true → x ≡ Found.Nothing
-nothing_is (Found.At at) e = absurd (false≢true e)
-nothing_is Found.Nothing e = refl
+pub nothing_is : (x : Option Addr) → nothing x ≡ true → x ≡ None
+nothing_is (Some at) e = absurd (false≢true e)
+nothing_is None e = refl
 
 -- a range is all erased exactly if each of its bytes is 0xFF
 module _ (f : List ℕ) (block n : ℕ) (h : start_of block + n ≤ length f) where

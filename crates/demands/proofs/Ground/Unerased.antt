@@ -7,7 +7,7 @@ use native.Mathlib.Decide.{ℕ_discrete, dec_lt}
 use native.Mathlib.Omega.{arith}
 use lib.ListN.{length, get_or}
 use Rattle.flash.specs.Flash.{start_of, searched, nothing, found_number}
-use Rattle.flash.specs.declared.Found.{Found}
+use Rattle.std.proofs.Common.{Some, None}
 use Rattle.flash.proofs.Unerased.{first_found}
 use Rattle.command.specs.Download.{all_erased}
 use Rattle.demands.specs.Calls.{Site}
@@ -73,13 +73,13 @@ one_left at block len j k (none all e) (first y) = absurd (blank_no_first at blo
 one_left at block len j k (none all e) (none also h) = e ∙ sym h
 
 -- all erased: the search finds nothing
-pub none_found : (at : Site) (block len : ℕ) → all_erased at.flash block len ≡ true → searched at.flash block len ≡ Found.Nothing
+pub none_found : (at : Site) (block len : ℕ) → all_erased at.flash block len ≡ true → searched at.flash block len ≡ None
 unfolding all_erased
 none_found at block len e = nothing_is (searched at.flash block len) e
 
 module _ (at : Site) (block len : ℕ) (h : start_of block + len ≤ length at.flash) where
   -- else the first such address
-  pub first_searched : (k : ℕ) → FirstUnerased at block len k → searched at.flash block len ≡ Found.At (record { 0 = k })
+  pub first_searched : (k : ℕ) → FirstUnerased at block len k → searched at.flash block len ≡ Some (record { 0 = k })
   unfolding searched
   first_searched k x = first_found at.flash (start_of block) len h k x.from x.to x.unerased x.erased_before
 

@@ -3,18 +3,18 @@
 -- Assumes nothing.
 use Prim.Native.Nat.{◌-◌, ◌≤◌}
 use mathlib.Core.Path.{◌≡◌}
-use Rattle.flash.specs.declared.Found.{Found}
+use Rattle.std.proofs.Common.{None}
 use Rattle.flash.proofs.Unerased.{Ahead}
 use Rattle.flash.proofs.search_from.Given as goal
 
 abbrev pub invariant-loop-at : goal.invariant-loop-at
-invariant-loop-at l = (l.found ≡ Found.Nothing) × (l.at ≤ l.stop) × (l.stop ≤ l.end) × Ahead l.flash (l.end - l.n) l.n l.at
+invariant-loop-at l = (l.found ≡ None) × (l.at ≤ l.stop) × (l.stop ≤ l.end) × Ahead l.flash (l.end - l.n) l.n l.at
 
 abbrev pub decreases-loop-at : goal.decreases-loop-at
 decreases-loop-at l = l.stop - l.at
 
 abbrev pub invariant-search : goal.invariant-search
-invariant-search l = (l.found ≡ Found.Nothing) × Ahead l.flash (l.end - l.n) l.n l.at
+invariant-search l = (l.found ≡ None) × Ahead l.flash (l.end - l.n) l.n l.at
 
 abbrev pub decreases-search : goal.decreases-search
 decreases-search l = l.end - l.at
