@@ -50,7 +50,6 @@ Allowed Request.ClrStatus n state = state ≡ 10
 Allowed Request.GetState n state = Unit
 Allowed Request.Abort n state = state ≡ 10 → ⊥
 Allowed Request.Query n state = Unit
-Allowed Request.Nothing n state = ⊥
 
 -- a prepared call that is a request in form
 pub record Asks (at : Site) (c : Call) (r : Request) (n : ℕ) : Type 0 where

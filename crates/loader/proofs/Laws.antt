@@ -4,7 +4,7 @@ use Prim.Native.Nat.{ℕ, ◌+◌, ◌≤◌, ◌<◌, ◌^◌}
 use mathlib.Core.Bool.{Bool, true, false, not, ◌&&◌, and-false}
 use mathlib.Core.List.{List, ◌++◌}
 use mathlib.Core.Logic.{inl, inr, ⊎_elim}
-use mathlib.Core.Path.{◌≡◌, refl, sym, ap, ap₂, subst⁻¹, ◌∙◌}
+use mathlib.Core.Path.{◌≡◌, refl, sym, ap, ap₂, subst, subst⁻¹, ◌∙◌}
 use native.Mathlib.Omega.{arith}
 use borrow.Author.Tests.{eqb-true, leb-true}
 use lib.Dec.{eqb, leb}
@@ -20,9 +20,15 @@ use Rattle.session.specs.declared.Talk.{Talk}
 use Rattle.session.specs.declared.Session.{Session}
 use Rattle.session.proofs.Laws.{fit_facts, split_facts, end_in_flash, end_after_start, stream_most}
 use Rattle.session.proofs.Tests.{left_of, right_of, either, pick_most}
-use Rattle.request.specs.Request.{request_of, w_length, data_asked, allowed_of}
+use Rattle.request.specs.Request.{setup_of, form_of, request_of, w_length, data_asked, allowed_of}
 use Rattle.request.specs.declared.Request.{Request}
+use Rattle.request.specs.declared.Setup.{Setup}
+use Rattle.request.proofs.Laws.{upload-length}
+use Rattle.std.specs.Prelude.{Option, Some, None, ◌↔◌, IsSome}
+use Rattle.std.specs.Bool.{then_some}
+use Rattle.std.specs.Option.{is_some}
 use Rattle.stream.proofs.Laws.{next_length}
+use Rattle.answers.specs.Moves.{stall_of}
 use Rattle.answers.specs.declared.Answer.{Answer}
 use Rattle.answers.specs.declared.Heard.{Heard}
 use Rattle.answers.specs.declared.Outcome.{Outcome}
@@ -36,7 +42,7 @@ use Rattle.command.specs.Download.{dnload_of}
 use Rattle.command.proofs.Laws.{pick, dnload_can}
 use Rattle.loader.specs.Reply.{answered}
 use Rattle.loader.specs.Upload.{place_of, answer_of}
-use Rattle.loader.specs.Step.{startable, ready, Decided, decided, only, answers, served, decided_of, with_reply, settled, step_of}
+use Rattle.loader.specs.Step.{startable, ready, Decided, decided, only, answers, served, asked_of, decided_of, with_reply, settled, step_of}
 use Rattle.loader.specs.Step.{stores_of}
 
 -- an answer of n bytes
@@ -105,6 +111,17 @@ split_ends a b n e = let k = split_facts (board_of a b 0 0) e in ends_at_lem b n
 pub fit_ends : (s : Session) (n : ℕ) → fit_of s ≡ true → ends_at s.board.b.0 n ≡ eqb n (start_of s.board.b.0)
 fit_ends s n e = let k = (fit_facts s e).few_blocks in ends_at_lem s.board.b.0 n (omega arith)
 
+-- a pick of something or nothing is something where its test holds
+is_some-then_some : {A : Type 0} (t : Bool) (x : A) → is_some (then_some t x) ≡ t
+is_some-then_some true x = refl
+is_some-then_some false x = refl
+
+pub then_some-IsSome :
+    {A : Type 0} (o : Option A) (t u : Bool) (x : A) → o ≡ then_some t x → t ≡ u → IsSome o ↔ (u ≡ true)
+then_some-IsSome o t u x e k =
+    let is = ap is_some e ∙ is_some-then_some t x ∙ k in
+    (λ h. sym is ∙ h, λ h. is ∙ h)
+
 -- a call that is ready
 module _ (s : Session) (f setup : List ℕ) (data_length room : ℕ) (e : ready s (length f) setup data_length room ≡ true) where
   setup_ok : Bool
@@ -142,17 +159,37 @@ allowed_loading s asked e =
           (either (eqb s.phase.state.0 idle && not (eqb asked 0)) (eqb s.phase.state.0 download_idle) e);
     }
 
--- the table's answer is that of the request and the length that were read
-pub allowed_read :
-    (s : Session) {yes : Bool} {q r : Request} {k n : ℕ} → yes ≡ allowed_of q k s.phase.state.0 → q ≡ r → k ≡ n
-    → yes ≡ allowed_of r n s.phase.state.0
-allowed_read s e p l = e ∙ ap₂ (λ (x : Request) (y : ℕ). allowed_of x y s.phase.state.0) p l
-
 -- a request that is told is served as that request
 pub as_told :
     (r q : Request) (s : Session) (f : List ℕ) (n : ℕ) (d b : List ℕ) (x : Decided) → r ≡ q → x ≡ served q s f n d b
     → x ≡ served r s f n d b
 as_told r q s f n d b x told e = e ∙ sym (ap (λ (y : Request). served y s f n d b) told)
+
+-- what is asked for, by the parts of the setup that were read, and whether the state allows it
+module _ (s : Session) (f d b : List ℕ) (x : Decided) (p : Setup) (setup : List ℕ) (read : p ≡ setup_of setup) where
+  asked : x ≡ asked_of (form_of p) s f p.length d b → x ≡ asked_of (request_of setup) s f (w_length setup) d b
+  asked h = subst (λ (y : Setup). x ≡ asked_of (form_of y) s f y.length d b) read h
+
+  pub asked_none : None ≡ form_of p → x ≡ only (stall_of s) b → x ≡ asked_of (request_of setup) s f (w_length setup) d b
+  asked_none e h = asked (rw (← e) h)
+
+  module _ (r : Request) (is : Some r ≡ form_of p) where
+    pub asked_no :
+        allowed_of r p.length s.phase.state.0 ≡ false → x ≡ only (stall_of s) b
+        → x ≡ asked_of (request_of setup) s f (w_length setup) d b
+    asked_no a h = asked (rw (← is, a) h)
+
+    pub asked_yes :
+        allowed_of r p.length s.phase.state.0 ≡ true → x ≡ served r s f p.length d b
+        → x ≡ asked_of (request_of setup) s f (w_length setup) d b
+    asked_yes a h = asked (rw (← is, a) h)
+
+-- an UPLOAD that was read asks for few bytes
+pub asked_few :
+    (p : Setup) (setup : List ℕ) (r : Request) → p ≡ setup_of setup → Some r ≡ form_of p → r ≡ Request.Upload → p.length ≤ 1024
+asked_few p setup r read is q =
+    let told : request_of setup ≡ Some Request.Upload = ap form_of (sym read) ∙ sym is ∙ ap (λ (y : Request). Some y) q in
+    omega (arith, (upload-length setup told).1, ap (λ (y : Setup). y.length) read)
 
 -- what leaves flash alone, from its calls, with no reply and with one
 module _ (s : Session) (x : Decision) (h : Heard) (b : List ℕ) (e : x ≡ decision_of h Job.Nothing) where
@@ -198,17 +235,18 @@ module _ (s : Session) (f setup d reply : List ℕ) where
   served_do Request.GetState r a = tt
   served_do Request.Abort r a = tt
   served_do Request.Query r a = tt
-  served_do Request.Nothing r a = tt
+
+  asked_do : (q : Option Request) → Ready s f → Can_do (asked_of q s f (w_length setup) d reply)
+  unfolding Can_do
+  asked_do (Some q) r = pick Can_do (allowed_of q (w_length setup) s.phase.state.0) _ _ (λ a. served_do q r a) (λ _. tt)
+  asked_do None r = tt
 
   pub decided_can :
       Can (decided_of s f setup d reply).plan.job (decided_of s f setup d reply).plan.outcome.session.board f d
   unfolding decided_of Can_do
   decided_can =
       pick Can_do (ready s (length f) setup (length d) (length reply)) _ _
-      (λ e.
-      pick Can_do (allowed_of (request_of setup) (w_length setup) s.phase.state.0) _ _
-      (λ a. served_do (request_of setup) (ready_fit s f setup (length d) (length reply) e) a) (λ _. tt))
-      (λ _. tt)
+      (λ e. asked_do (request_of setup) (ready_fit s f setup (length d) (length reply) e)) (λ _. tt)
 
   -- the same of a decision, once it is told that it is the one
   pub decision_can :

@@ -1,5 +1,5 @@
 -- The two calls: a fresh start, and a request.
-use Rattle.std.specs.Prelude.{ℕ, ◌≤◌, Bool, true, cond, ◌&&◌, List, ◌≡◌, eqb, leb, length}
+use Rattle.std.specs.Prelude.{ℕ, ◌≤◌, Bool, true, cond, ◌&&◌, List, ◌≡◌, Option, Some, None, eqb, leb, length}
 use Rattle.flash.specs.Flash.{start_of, Store}
 use Rattle.sums.specs.Sum.{fresh_sums}
 use Rattle.session.specs.Session.{allowed_split, board_of, app_end, fresh_of, zeros_of}
@@ -74,15 +74,18 @@ served Request.ClrStatus s flash asked d reply = only (taken_of (to_idle s)) rep
 served Request.GetState s flash asked d reply = answers (getstate_of s reply)
 served Request.Abort s flash asked d reply = only (taken_of (to_idle s)) reply
 served Request.Query s flash asked d reply = answers (query_of s reply)
-served Request.Nothing s flash asked d reply = only (stall_of s) reply
+
+-- what is asked for: a request that the state allows is served, any other is stalled, and so is what is no request
+abbrev pub asked_of : Option Request → Session → List ℕ → ℕ → List ℕ → List ℕ → Decided
+asked_of (Some r) s flash asked d reply =
+    cond (allowed_of r asked s.phase.state.0) (served r s flash asked d reply) (only (stall_of s) reply)
+asked_of None s flash asked d reply = only (stall_of s) reply
 
 -- what a request does: unfit, form and state, then what it asks for
 unfoldable pub decided_of : Session → List ℕ → List ℕ → List ℕ → List ℕ → Decided
 decided_of s flash setup d reply =
     cond (ready s (length flash) setup (length d) (length reply))
-    (cond (allowed_of (request_of setup) (w_length setup) s.phase.state.0)
-    (served (request_of setup) s flash (w_length setup) d reply) (only (stall_of s) reply))
-    (only (unfit_of s) reply)
+    (asked_of (request_of setup) s flash (w_length setup) d reply) (only (unfit_of s) reply)
 
 abbrev pub with_reply : Done → List ℕ → Leaves
 with_reply x reply = leaves x.outcome x.flash reply

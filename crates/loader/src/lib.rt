@@ -1,7 +1,8 @@
 // The loader: a fresh start, and one request after another. It checks all that it is handed, so a board's programmer need not.
 #![tactic(auto)]
 
-ghost use Rattle.std.specs.Prelude.{◌≡◌, length};
+ghost use Rattle.std.specs.Prelude.{◌≡◌, ◌↔◌, true, length, IsSome, IfSome};
+ghost use Rattle.request.specs.Request.{setup_of};
 ghost use Rattle.answers.specs.Answers.{leaves, told};
 ghost use Rattle.jobs.specs.Job.{planned};
 ghost use Rattle.loader.specs.Step.{startable, start_outcome, ready, decided, served, decided_of, step_of, Served};
@@ -9,7 +10,7 @@ ghost use Rattle.loader.specs.Step.{startable, start_outcome, ready, decided, se
 use answers::{Answer, Outcome};
 use flash::Block;
 use jobs::Decision;
-use request::Request;
+use request::{Request, Setup};
 use session::{Board, Session};
 
 mod reply;
@@ -47,15 +48,24 @@ pub fn start(flash: &[u8], a: Block, b: Block, part0: u32, part1: u32) -> Outcom
     }
 }
 
-// What a call must find before anything is done.
-fn is_ready(s: Session, flash_len: usize, setup: &[u8], data_len: usize, reply_len: usize) -> bool
-    ensures { result ≡ ready s flash_len setup.now data_len reply_len }
+// The setup of a call that has all it must before anything is done.
+#[tactic(auto, unfolding(crate::specs::Step::ready))]
+fn prepared(
+    s: Session,
+    flash_len: usize,
+    setup: &[u8],
+    data_len: usize,
+    reply_len: usize,
+) -> Option<Setup>
+    ensures ready { IsSome result ↔ (ready s flash_len setup.now data_len reply_len ≡ true) }
+    ensures parts { IfSome result (λ p. p ≡ setup_of setup.now) }
 {
-    (setup.len() == 8)
-        & (1024 <= reply_len)
+    let parts = Setup::read(setup)?;
+    let ready = (1024 <= reply_len)
         & s.board.b.ends(flash_len)
-        & (data_len == request::data_asked(setup) as usize)
-        & session::fit(s)
+        & (data_len == parts.data_asked() as usize)
+        & session::fit(s);
+    ready.then_some(parts)
 }
 
 // What an allowed request does.
@@ -71,7 +81,6 @@ fn serve(r: Request, s: Session, flash: &[u8], asked: u32, d: &[u8], reply: &mut
         Request::GetState => jobs::only(reply::getstate(s, reply)),
         Request::Abort => jobs::only(answers::taken(answers::idle(s))),
         Request::Query => jobs::only(reply::query(s, reply)),
-        Request::Nothing => jobs::only(answers::stalled(s)),
     }
 }
 
@@ -80,15 +89,17 @@ fn decide(s: Session, flash: &[u8], setup: &[u8], d: &[u8], reply: &mut [u8]) ->
     ensures { decided (planned s result) reply.new
         ≡ decided_of s flash.now setup.now d.now reply.old }
 {
-    if !is_ready(s, flash.len(), setup, d.len(), reply.len()) {
+    let Some(setup) = prepared(s, flash.len(), setup, d.len(), reply.len()) else {
         return jobs::only(answers::unfit(s));
-    }
-    let r = request::read_setup(setup);
-    let asked = request::length_of(setup);
-    if !request::allowed(r, asked, s.phase.state) {
+    };
+    let Some(request) = setup.request() else {
+        return jobs::only(answers::stalled(s));
+    };
+    let asked = setup.length as u32;
+    if !request.allowed(asked, s.phase.state) {
         return jobs::only(answers::stalled(s));
     }
-    serve(r, s, flash, asked, d, reply)
+    serve(request, s, flash, asked, d, reply)
 }
 
 // One request: decided, then carried out, and then its sums are made.

@@ -1,10 +1,9 @@
 -- Laws of the requests: a request has its form, and the table says what the states allow.
 use Prim.Native.Nat.{ℕ, ◌≤◌, ◌<◌}
-use native.Mathlib.Omega.{arith}
-use native.Mathlib.Decide.{ℕ_discrete}
 use mathlib.Core.Path.{◌≡◌, refl, sym, ◌∙◌}
-use mathlib.Core.Bool.{Bool, true, false, not, cond, ◌&&◌, and-true, or-false}
+use mathlib.Core.Bool.{Bool, true, false, cond, ◌&&◌}
 use mathlib.Core.List.{List, [], ◌∷◌, map}
+use Rattle.std.specs.Prelude.{Option, Some, None}
 use lib.Dec.{eqb, leb}
 use lib.ListN.{length, get_or}
 use borrow.Author.Tests.{eqb-true, leb-true, ne_eqb, lt-ltb, le-ltb}
@@ -15,16 +14,9 @@ use Rattle.session.proofs.Laws.{no_state, column_known, at_column}
 use Rattle.request.specs.declared.Setup.{Setup}
 use Rattle.request.specs.declared.Request.{Request}
 use Rattle.request.specs.declared.Request.TheVariants.{Dnload, Upload, GetStatus, ClrStatus}
-use Rattle.request.specs.declared.Request.TheVariants.{GetState, Abort, Query, Nothing}
+use Rattle.request.specs.declared.Request.TheVariants.{GetState, Abort, Query}
 use Rattle.request.specs.Request.{setup_of, has_form, in_form, form_of, request_of, w_length, data_asked}
 use Rattle.request.specs.Request.{allowed_of, row_of}
-
--- a pick that a callee's answer made
-pub told-yes : {A : Type 0} (r t : Bool) (x y : A) → r ≡ t → r ≡ true → x ≡ cond t x y
-told-yes r t x y e h = rw (← e, h)
-
-pub told_no : {A : Type 0} (r t : Bool) (x y z : A) → r ≡ t → r ≡ false → z ≡ y → z ≡ cond t x y
-told_no r t x y z e h k = rw (← e, h) k
 
 -- what holds of both picks where the test led to them holds of the pick
 picked :
@@ -33,18 +25,21 @@ picked :
 picked P true x y h k = h refl
 picked P false x y h k = k refl
 
+some_is : {q r : Request} → Some q ≡ Some r → q ≡ r
+some_is e = cc
+
 -- a setup has the form of the request that it is
-pub form_right : (s : Setup) → in_form (form_of s) s ≡ true
+pub form_right : (s : Setup) (r : Request) → form_of s ≡ Some r → in_form r s ≡ true
 unfolding form_of
-form_right s =
-    let P : Request → Type 0 = λ r. in_form r s ≡ true in
-    picked P (in_form Dnload s) Dnload _ (λ e. e) λ _.
-    picked P (in_form Upload s) Upload _ (λ e. e) λ _.
-    picked P (in_form GetStatus s) GetStatus _ (λ e. e) λ _.
-    picked P (in_form ClrStatus s) ClrStatus _ (λ e. e) λ _.
-    picked P (in_form GetState s) GetState _ (λ e. e) λ _.
-    picked P (in_form Abort s) Abort _ (λ e. e) λ _.
-    picked P (in_form Query s) Query Nothing (λ e. e) λ _. refl
+form_right s r =
+    let P : Option Request → Type 0 = λ q. q ≡ Some r → in_form r s ≡ true in
+    picked P (in_form Dnload s) (Some Dnload) _ (λ e q. rw (← some_is q) e) λ _.
+    picked P (in_form Upload s) (Some Upload) _ (λ e q. rw (← some_is q) e) λ _.
+    picked P (in_form GetStatus s) (Some GetStatus) _ (λ e q. rw (← some_is q) e) λ _.
+    picked P (in_form ClrStatus s) (Some ClrStatus) _ (λ e q. rw (← some_is q) e) λ _.
+    picked P (in_form GetState s) (Some GetState) _ (λ e q. rw (← some_is q) e) λ _.
+    picked P (in_form Abort s) (Some Abort) _ (λ e q. rw (← some_is q) e) λ _.
+    picked P (in_form Query s) (Some Query) None (λ e q. rw (← some_is q) e) λ _ q. cc
 
 -- what a form says of the parts
 pub form_facts :
@@ -66,23 +61,23 @@ form_facts s kind number least most e =
     )
 
 -- a DNLOAD brings as many bytes as its wLength says, 1,024 at most
-pub dnload-data_asked : (bytes : List ℕ) → request_of bytes ≡ Dnload → data_asked bytes ≡ w_length bytes
+pub dnload-data_asked : (bytes : List ℕ) → request_of bytes ≡ Some Dnload → data_asked bytes ≡ w_length bytes
 unfolding data_asked
 dnload-data_asked bytes e =
     let s = setup_of bytes in
-    let f = form_facts s 0x21 1 0 1024 (rw e at (form_right s)) in
+    let f = form_facts s 0x21 1 0 1024 (form_right s Dnload e) in
     rw (f.0, f.1)
 
-pub dnload-length : (bytes : List ℕ) → request_of bytes ≡ Dnload → w_length bytes ≤ 1024
+pub dnload-length : (bytes : List ℕ) → request_of bytes ≡ Some Dnload → w_length bytes ≤ 1024
 dnload-length bytes e =
     let s = setup_of bytes in
-    (form_facts s 0x21 1 0 1024 (rw e at (form_right s))).4
+    (form_facts s 0x21 1 0 1024 (form_right s Dnload e)).4
 
 -- an UPLOAD asks for 1 to 1,024 bytes
-pub upload-length : (bytes : List ℕ) → request_of bytes ≡ Upload → (1 ≤ w_length bytes) × (w_length bytes ≤ 1024)
+pub upload-length : (bytes : List ℕ) → request_of bytes ≡ Some Upload → (1 ≤ w_length bytes) × (w_length bytes ≤ 1024)
 upload-length bytes e =
     let s = setup_of bytes in
-    let f = form_facts s 0xA1 2 1 1024 (rw e at (form_right s)) in
+    let f = form_facts s 0xA1 2 1 1024 (form_right s Upload e) in
     (f.3, f.4)
 
 -- nothing is allowed in what is no state
@@ -97,7 +92,6 @@ unknown ClrStatus n k = ne_eqb n error (λ e. no_state n k (is_error e))
 unknown GetState n k = k
 unknown Abort n k = rw k
 unknown Query n k = k
-unknown Nothing n k = refl
 
 -- the table, computed: of requests that bring a byte, by states
 unfoldable pub allowed_table : List (List Bool)
@@ -118,7 +112,6 @@ entries ClrStatus = at_column (allowed_of ClrStatus 1) false
 entries GetState = at_column (allowed_of GetState 1) false
 entries Abort = at_column (allowed_of Abort 1) false
 entries Query = at_column (allowed_of Query 1) false
-entries Nothing = λ n k. refl
 
 -- what the table's reader answers outside the table and in it
 module _ (r : Request) (n : ℕ) where
@@ -132,37 +125,3 @@ module _ (r : Request) (n : ℕ) where
   unfolding entry
   in_table i j e f h =
       rw (e, f) (entries r n (sym (column_known n) ∙ lt-ltb (column_of n) (length states) (rw f at h)))
-
-pub past_rows : (r : Request) (n i : ℕ) → i ≡ row_of r → 7 ≤ i → false ≡ allowed_of r 1 n
-unfolding allowed_of
-past_rows Dnload n i e h = absurd (omega arith)
-past_rows Upload n i e h = absurd (omega arith)
-past_rows GetStatus n i e h = absurd (omega arith)
-past_rows ClrStatus n i e h = absurd (omega arith)
-past_rows GetState n i e h = absurd (omega arith)
-past_rows Abort n i e h = absurd (omega arith)
-past_rows Query n i e h = absurd (omega arith)
-past_rows Nothing n i e h = refl
-
--- the table and the one case that it leaves: a DNLOAD of no bytes in state idle
-dnload_empty :
-    (bytes n : ℕ) → (allowed_of Dnload 1 n && not (eqb n idle && eqb bytes 0)) ≡ allowed_of Dnload bytes n
-unfolding allowed_of
-dnload_empty bytes n =
-    elim (ℕ_discrete n idle) [
-      | yes e ↦ rw e (sym (or-false (not (eqb bytes 0))))
-      | no e ↦ rw (ne_eqb n idle e) (and-true (eqb n download_idle))
-    ]
-
-pub not_empty :
-    (r : Request) (bytes n : ℕ)
-    → (allowed_of r 1 n && not (eqb (row_of r) 0 && eqb n idle && eqb bytes 0)) ≡ allowed_of r bytes n
-unfolding allowed_of
-not_empty Dnload bytes n = dnload_empty bytes n
-not_empty Upload bytes n = and-true _
-not_empty GetStatus bytes n = and-true _
-not_empty ClrStatus bytes n = and-true _
-not_empty GetState bytes n = and-true _
-not_empty Abort bytes n = and-true _
-not_empty Query bytes n = and-true _
-not_empty Nothing bytes n = refl

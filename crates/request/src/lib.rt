@@ -1,14 +1,12 @@
-// What the host asks: eight setup bytes to one of seven requests or none, the table of requests by states, and the numbers of the
-// eight-byte commands.
+// What the host asks: eight setup bytes to one of seven requests or none, the table of requests by states, and the eight-byte commands.
 #![tactic(auto)]
 
-ghost use Rattle.std.specs.Prelude.{◌≡◌};
-ghost use Rattle.request.specs.Request.{setup_of, has_form, in_form, form_of, request_of, w_length, data_asked};
-ghost use Rattle.request.specs.Request.{allowed_of, row_of};
+ghost use Rattle.std.specs.Prelude.{◌≡◌, ◌↔◌, IsSome, IfSome, length};
+ghost use Rattle.request.specs.Request.{setup_of, form_of, data_for, allowed_of, row_of};
 
 use session::State;
 
-#[derive(Clone, Copy)]
+#[derive(Clone, Copy, Debug, PartialEq, Eq)]
 pub enum Request {
     Dnload,
     Upload,
@@ -17,7 +15,6 @@ pub enum Request {
     GetState,
     Abort,
     Query,
-    Nothing,
 }
 
 // The number of an eight-byte command; the byte after it and the rest are read by the command's own rules.
@@ -41,13 +38,13 @@ impl Command {
 }
 
 // The parts of a setup: bmRequestType, bRequest, wValue, wIndex, wLength.
-#[derive(Clone, Copy)]
-struct Setup {
-    kind: u8,
-    number: u8,
-    value: u32,
-    index: u32,
-    length: u32,
+#[derive(Clone, Copy, Debug, PartialEq, Eq)]
+pub struct Setup {
+    pub kind: u8,
+    pub number: u8,
+    pub value: u16,
+    pub index: u16,
+    pub length: u16,
 }
 
 // Setup types: to the device and from it, of a class, for an interface.
@@ -66,136 +63,80 @@ const ALLOWED: [[bool; State::COUNT]; 7] = [
     [true, true, true, true, true, true],
 ];
 
-// What isn't 8 bytes has no parts: zeros have the form of no request.
-fn parts(setup: &[u8]) -> Setup
-    ensures { result ≡ setup_of setup.now }
-{
-    if setup.len() != 8 {
-        return Setup {
-            kind: 0,
-            number: 0,
-            value: 0,
-            index: 0,
-            length: 0,
-        };
+impl Setup {
+    // What isn't 8 bytes has no parts.
+    #[tactic(auto, unfolding(crate::specs::Request::setup_of))]
+    pub fn read(bytes: &[u8]) -> Option<Setup>
+        ensures eight { IsSome result ↔ (length bytes.now ≡ 8) }
+        ensures parts { IfSome result (λ s. s ≡ setup_of bytes.now) }
+    {
+        if bytes.len() != 8 {
+            return None;
+        }
+        Some(Setup {
+            kind: bytes[0],
+            number: bytes[1],
+            value: numbers::word(bytes, 2),
+            index: numbers::word(bytes, 4),
+            length: numbers::word(bytes, 6),
+        })
     }
-    let kind = setup[0];
-    let number = setup[1];
-    let value = numbers::word(setup, 2) as u32;
-    let index = numbers::word(setup, 4) as u32;
-    let length = numbers::word(setup, 6) as u32;
-    Setup {
-        kind: kind,
-        number: number,
-        value: value,
-        index: index,
-        length: length,
+
+    // The request whose form the setup has.
+    #[tactic(auto, unfolding(crate::specs::Request::form_of))]
+    pub fn request(self) -> Option<Request>
+        ensures { result ≡ form_of self }
+    {
+        if self.index != 0 {
+            return None;
+        }
+        match (self.kind, self.number, self.length) {
+            (OUT, 1, 0..=1024) => Some(Request::Dnload),
+            (IN, 2, 1..=1024) => Some(Request::Upload),
+            (IN, 3, 6) => Some(Request::GetStatus),
+            (OUT, 4, 0) => Some(Request::ClrStatus),
+            (IN, 5, 1) => Some(Request::GetState),
+            (OUT, 6, 0) => Some(Request::Abort),
+            (IN, 0x42, 4) if self.value == 0x23 => Some(Request::Query),
+            _ => None,
+        }
+    }
+
+    // How many data bytes come with the setup, of whatever form the rest is.
+    pub fn data_asked(self) -> u16
+        ensures { result ≡ data_for self }
+    {
+        if (self.kind == OUT) & (self.number == 1) {
+            self.length
+        } else {
+            0
+        }
     }
 }
 
-fn has_form(s: Setup, kind: u8, number: u8, least: u32, most: u32) -> bool
-    ensures { result ≡ has_form s kind number least most }
-{
-    (s.kind == kind)
-        & (s.number == number)
-        & (s.index == 0)
-        & (least <= s.length)
-        & (s.length <= most)
-}
+impl Request {
+    fn row(self) -> usize
+        ensures { result ≡ row_of self }
+    {
+        self as usize
+    }
 
-fn is_query(s: Setup) -> bool
-    ensures { result ≡ in_form Request.Query s }
-{
-    has_form(s, IN, 0x42, 4, 4) & (s.value == 0x23)
-}
+    // What the table says, which is of requests that bring a byte.
+    fn in_table(self, s: State) -> bool
+        ensures { result ≡ allowed_of self 1 s.0 }
+    {
+        let column = s.column();
+        (column < State::COUNT) && ALLOWED[self.row()][column]
+    }
 
-fn form(s: Setup) -> Request
-    ensures { result ≡ form_of s }
-{
-    if has_form(s, OUT, 1, 0, 1024) {
-        return Request::Dnload;
+    // Whether a request of so many bytes is allowed in a state. No bytes are no command, so they start no download.
+    #[tactic(auto, unfolding(crate::specs::Request::allowed_of))]
+    pub fn allowed(self, length: u32, s: State) -> bool
+        ensures { result ≡ allowed_of self length s.0 }
+    {
+        match self {
+            Request::Dnload if (s == State::IDLE) & (length == 0) => false,
+            _ => self.in_table(s),
+        }
     }
-    if has_form(s, IN, 2, 1, 1024) {
-        return Request::Upload;
-    }
-    if has_form(s, IN, 3, 6, 6) {
-        return Request::GetStatus;
-    }
-    if has_form(s, OUT, 4, 0, 0) {
-        return Request::ClrStatus;
-    }
-    if has_form(s, IN, 5, 1, 1) {
-        return Request::GetState;
-    }
-    if has_form(s, OUT, 6, 0, 0) {
-        return Request::Abort;
-    }
-    if is_query(s) {
-        return Request::Query;
-    }
-    Request::Nothing
-}
-
-// The request that the setup bytes are.
-pub fn read_setup(setup: &[u8]) -> Request
-    ensures { result ≡ request_of setup.now }
-{
-    form(parts(setup))
-}
-
-// How many bytes the setup speaks of.
-pub fn length_of(setup: &[u8]) -> u32
-    ensures { result ≡ w_length setup.now }
-{
-    parts(setup).length
-}
-
-// How many data bytes come with the setup, of whatever form the rest is.
-pub fn data_asked(setup: &[u8]) -> u32
-    ensures { result ≡ data_asked setup.now }
-{
-    let s = parts(setup);
-    if (s.kind == OUT) & (s.number == 1) {
-        s.length
-    } else {
-        0
-    }
-}
-
-fn row(r: Request) -> usize
-    ensures { result ≡ row_of r }
-{
-    match r {
-        Request::Dnload => 0,
-        Request::Upload => 1,
-        Request::GetStatus => 2,
-        Request::ClrStatus => 3,
-        Request::GetState => 4,
-        Request::Abort => 5,
-        Request::Query => 6,
-        Request::Nothing => 7,
-    }
-}
-
-// What the table says, which is of requests that bring a byte.
-fn in_table(r: Request, s: State) -> bool
-    ensures { result ≡ allowed_of r 1 s.0 }
-{
-    let i = row(r);
-    let j = s.column();
-    if 7 <= i {
-        return false;
-    }
-    if State::COUNT <= j {
-        return false;
-    }
-    ALLOWED[i][j]
-}
-
-// Whether a request of so many bytes is allowed in a state. No bytes are no command, so they start no download.
-pub fn allowed(r: Request, length: u32, s: State) -> bool
-    ensures { result ≡ allowed_of r length s.0 }
-{
-    let empty = (row(r) == 0) & (s == State::IDLE) & (length == 0);
-    in_table(r, s) & !empty
 }

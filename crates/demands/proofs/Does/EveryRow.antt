@@ -142,7 +142,6 @@ module _ {I : Type 0} (step : I → Step) (at : Site) (c : Call) (P : Type 0) wh
         f.hands refl (λ z. ((meets z).rows at c).abort (asks_of Request.Abort n 0 e p (abort s e)) a)
     by_asked Request.Query n p (query s e v) a =
         f.hands refl (λ z. ((meets z).rows at c).query (asks_of Request.Query n 4 e p (query s e v)))
-    by_asked Request.Nothing n p form a = absurd a
 
     by_prepared : Prepared at c → P
     by_prepared p =

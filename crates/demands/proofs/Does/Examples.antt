@@ -268,7 +268,6 @@ no_form Request.ClrStatus n (clrstatus s e) = omega (arith, s.typed)
 no_form Request.GetState n (getstate s e) = omega (arith, s.typed)
 no_form Request.Abort n (abort s e) = omega (arith, s.typed)
 no_form Request.Query n (query s e v) = omega (arith, s.typed)
-no_form Request.Nothing n none = elim none [ ]
 
 -- so they are refused in states 2 and 10
 pub stalled_met :

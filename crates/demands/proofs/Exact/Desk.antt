@@ -15,7 +15,9 @@ use Rattle.sums.specs.declared.Sums.{Sums}
 use Rattle.session.specs.Session.{board_of, phase_of, down_of, app_end, stream_length, with_phase, with_down, with_unerased, whole_upload, fresh_of}
 use Rattle.session.specs.Rules.{fit_of}
 use Rattle.session.specs.declared.Session.{Session}
-use Rattle.request.specs.Request.{setup_of, form_of, request_of, w_length, data_asked, allowed_of}
+use Rattle.std.specs.Prelude.{Some}
+use Rattle.request.specs.declared.Request.{Request}
+use Rattle.request.specs.Request.{setup_of, form_of, request_of, w_length, data_asked, allowed_of, permitted}
 use Rattle.answers.specs.declared.Answer.{Answer}
 use Rattle.answers.specs.Answers.{Leaves, outcome, leaves}
 use Rattle.answers.specs.Moves.{moved_to, stall_of, fault_of}
@@ -65,12 +67,12 @@ module _ (p q : ℕ) (f buffer : List ℕ) (sized : length f ≡ start_of 64) (r
     sound = prepared_from (site s g) c eight (rw lent room) (rw b long) brought fit
 
     serves :
-        allowed_of (request_of c.setup) (w_length c.setup) s.phase.state.0 ≡ true → called step_of (site s g) c
-        ≡ settled (served (request_of c.setup) s g (w_length c.setup) c.bytes c.reply) g c.bytes
-    serves = sound_served (site s g) c sound
+        {r : Request} → request_of c.setup ≡ Some r → allowed_of r (w_length c.setup) s.phase.state.0 ≡ true
+        → called step_of (site s g) c ≡ settled (served r s g (w_length c.setup) c.bytes c.reply) g c.bytes
+    serves is e = sound_served (site s g) c sound _ is e
 
     stalls :
-        allowed_of (request_of c.setup) (w_length c.setup) s.phase.state.0 ≡ false → called step_of (site s g) c
+        permitted (request_of c.setup) (w_length c.setup) s.phase.state.0 ≡ false → called step_of (site s g) c
         ≡ leaves (stall_of s) g c.reply
     stalls = sound_stalled (site s g) c sound
 
@@ -103,19 +105,19 @@ module _ (p q : ℕ) (f buffer : List ℕ) (sized : length f ≡ start_of 64) (r
     after_erase : after_call step_of (site (held 2 0 2 0 0 sums) f) (erase_all buffer) ≡ site (held 3 0 2 0 0 (refreshed sums w 16 64 16 64)) w
     unfolding fit_of stream_length fresh_of whole_upload app_end data_asked setup_of form_of allowed_of served dnload_of command_of well_formed
         by_number settled job_done erase_of sums_wiped moved_to
-    after_erase = after_call_from _ _ _ (serves (held 2 0 2 0 0 sums) f (erase_all buffer) refl sized refl refl refl refl refl)
+    after_erase = after_call_from _ _ _ (serves (held 2 0 2 0 0 sums) f (erase_all buffer) refl sized refl refl refl refl refl refl)
 
     after_seven : after_call step_of (site (held 2 0 2 0 0 sums) f) (seven buffer) ≡ site (held 10 0x0B 2 0 0 sums) f
     unfolding fit_of stream_length fresh_of whole_upload app_end data_asked setup_of form_of allowed_of served settled job_done dnload_of
         command_of well_formed fault_of moved_to
-    after_seven = after_call_from _ _ _ (serves (held 2 0 2 0 0 sums) f (seven buffer) refl sized refl refl refl refl refl)
+    after_seven = after_call_from _ _ _ (serves (held 2 0 2 0 0 sums) f (seven buffer) refl sized refl refl refl refl refl refl)
 
     after_poll :
         (g : List ℕ) → length g ≡ start_of 64 → after_call step_of (site (held 3 0 2 0 0 sums) g) (get_status buffer)
         ≡ site (held 2 0 2 0 0 sums) g
     unfolding fit_of stream_length fresh_of whole_upload app_end data_asked setup_of form_of allowed_of served settled job_done getstatus_of
         answered polled entered poll_time
-    after_poll g long = after_call_from _ _ _ (serves (held 3 0 2 0 0 sums) g (get_status buffer) refl long refl refl refl refl refl)
+    after_poll g long = after_call_from _ _ _ (serves (held 3 0 2 0 0 sums) g (get_status buffer) refl long refl refl refl refl refl refl)
 
     -- a PROG of one byte that brings none, and one that brings a zero
     one_sums : Sums
@@ -126,7 +128,7 @@ module _ (p q : ℕ) (f buffer : List ℕ) (sized : length f ≡ start_of 64) (r
         well_formed by_number settled job_done prog_of wrote_of moved_to
     after_one =
         after_call_from _ _ (leaves (outcome Answer.Taken 0 (held 3 0 5 16384 1 one_sums)) w buffer)
-        (serves (held 2 0 2 0 0 sums) w (prog_one buffer) refl w_long refl refl refl refl refl
+        (serves (held 2 0 2 0 0 sums) w (prog_one buffer) refl w_long refl refl refl refl refl refl
         ∙ rw (w_erased 16 1 (omega arith) (omega arith), w_found 16 1 (omega arith) (omega arith), spliced_none w (start_of 16)))
 
     zero_sums : Sums
@@ -137,28 +139,28 @@ module _ (p q : ℕ) (f buffer : List ℕ) (sized : length f ≡ start_of 64) (r
         well_formed by_number settled job_done prog_of wrote_of moved_to
     after_zero =
         after_call_from _ _ (leaves (outcome Answer.Taken 0 (held 3 0 5 16385 0 zero_sums)) z buffer)
-        (serves (held 2 0 2 0 0 sums) w (prog_zero buffer) refl w_long refl refl refl refl refl
+        (serves (held 2 0 2 0 0 sums) w (prog_zero buffer) refl w_long refl refl refl refl refl refl
         ∙ rw (w_erased 16 1 (omega arith) (omega arith), w_found 16 1 (omega arith) (omega arith)))
 
     one_polled : after_call step_of (site (held 3 0 5 16384 1 sums) w) (get_status buffer) ≡ site (held 5 0 2 16384 1 sums) w
     unfolding fit_of stream_length fresh_of whole_upload app_end data_asked setup_of form_of allowed_of served settled job_done getstatus_of
         answered polled entered poll_time
-    one_polled = after_call_from _ _ _ (serves (held 3 0 5 16384 1 sums) w (get_status buffer) refl w_long refl refl refl refl refl)
+    one_polled = after_call_from _ _ _ (serves (held 3 0 5 16384 1 sums) w (get_status buffer) refl w_long refl refl refl refl refl refl)
 
     zero-polled : after_call step_of (site (held 3 0 5 16385 0 sums) z) (get_status buffer) ≡ site (held 5 0 2 16385 0 sums) z
     unfolding fit_of stream_length fresh_of whole_upload app_end data_asked setup_of form_of allowed_of served settled job_done getstatus_of
         answered polled entered poll_time
-    zero-polled = after_call_from _ _ _ (serves (held 3 0 5 16385 0 sums) z (get_status buffer) refl z_long refl refl refl refl refl)
+    zero-polled = after_call_from _ _ _ (serves (held 3 0 5 16385 0 sums) z (get_status buffer) refl z_long refl refl refl refl refl refl)
 
     zero_closed : after_call step_of (site (held 5 0 2 16385 0 sums) z) (close buffer) ≡ site (held 6 0 2 0 0 sums) z
     unfolding fit_of stream_length fresh_of whole_upload app_end data_asked setup_of form_of allowed_of served settled job_done dnload_of
         piece_of closed_of moved_to
-    zero_closed = after_call_from _ _ _ (serves (held 5 0 2 16385 0 sums) z (close buffer) refl z_long refl refl refl refl refl)
+    zero_closed = after_call_from _ _ _ (serves (held 5 0 2 16385 0 sums) z (close buffer) refl z_long refl refl refl refl refl refl)
 
     closed_polled : after_call step_of (site (held 6 0 2 0 0 sums) z) (get_status buffer) ≡ site (held 2 0 2 0 0 sums) z
     unfolding fit_of stream_length fresh_of whole_upload app_end data_asked setup_of form_of allowed_of served settled job_done getstatus_of
         answered polled entered poll_time
-    closed_polled = after_call_from _ _ _ (serves (held 6 0 2 0 0 sums) z (get_status buffer) refl z_long refl refl refl refl refl)
+    closed_polled = after_call_from _ _ _ (serves (held 6 0 2 0 0 sums) z (get_status buffer) refl z_long refl refl refl refl refl refl)
 
   -- where the examples stand: fresh, fresh with all erased, a download of one byte open, one closed, and in error
   sums0 : Sums
@@ -233,25 +235,25 @@ module _ (p q : ℕ) (f buffer : List ℕ) (sized : length f ≡ start_of 64) (r
       getstate_of query_of getstatus_of polled entered poll_time dnload_of command_of well_formed by_number settled job_done erase_of
       sums_wiped prog_of wrote_of piece_of closed_of
   desk =
-      example 0 _ _ at_start (serves _ f _ refl sized refl refl refl refl refl) refl refl refl refl refl refl
-      and example 1 _ _ at_start (serves _ f _ refl sized refl refl refl refl refl) refl refl refl refl refl refl
-      and example 2 _ _ at_start (serves _ f _ refl sized refl refl refl refl refl) refl refl refl refl refl refl
-      and example 3 _ _ at_start (serves _ f _ refl sized refl refl refl refl refl) refl refl refl refl refl refl
-      and example 4 _ _ at_start (serves _ f _ refl sized refl refl refl refl refl) refl refl refl refl refl refl
+      example 0 _ _ at_start (serves _ f _ refl sized refl refl refl refl refl refl) refl refl refl refl refl refl
+      and example 1 _ _ at_start (serves _ f _ refl sized refl refl refl refl refl refl) refl refl refl refl refl refl
+      and example 2 _ _ at_start (serves _ f _ refl sized refl refl refl refl refl refl) refl refl refl refl refl refl
+      and example 3 _ _ at_start (serves _ f _ refl sized refl refl refl refl refl refl) refl refl refl refl refl refl
+      and example 4 _ _ at_start (serves _ f _ refl sized refl refl refl refl refl refl) refl refl refl refl refl refl
       and example 5 _ opened at_erased
-      (serves _ w _ refl w_long refl refl refl refl refl
+      (serves _ w _ refl w_long refl refl refl refl refl refl
       ∙ rw (w_erased 63 1024 (omega arith) (omega arith), w_found 63 1024 (omega arith) (omega arith), spliced_none w (start_of 63)))
       refl refl refl refl refl refl
-      and example 6 _ _ at_erased (serves _ w _ refl w_long refl refl refl refl refl) refl refl refl refl refl refl
-      and example 7 _ _ at_start (serves _ f _ refl sized refl refl refl refl refl) refl refl refl refl refl refl
-      and example 8 _ _ at_start (serves _ f _ refl sized refl refl refl refl refl) refl refl refl refl refl refl
-      and example 9 _ _ at_start (serves _ f _ refl sized refl refl refl refl refl) refl refl refl refl refl refl
-      and example 10 _ _ at_error (serves _ f _ refl sized refl refl refl refl refl) refl refl refl refl refl refl
+      and example 6 _ _ at_erased (serves _ w _ refl w_long refl refl refl refl refl refl) refl refl refl refl refl refl
+      and example 7 _ _ at_start (serves _ f _ refl sized refl refl refl refl refl refl) refl refl refl refl refl refl
+      and example 8 _ _ at_start (serves _ f _ refl sized refl refl refl refl refl refl) refl refl refl refl refl refl
+      and example 9 _ _ at_start (serves _ f _ refl sized refl refl refl refl refl refl) refl refl refl refl refl refl
+      and example 10 _ _ at_error (serves _ f _ refl sized refl refl refl refl refl refl) refl refl refl refl refl refl
       and example 11 _ _ at_start (stalls _ f _ refl sized refl refl refl refl refl) refl refl refl refl refl refl
-      and example 12 _ _ at_one (serves _ w _ refl w_long refl refl refl refl refl) refl refl refl refl refl refl
+      and example 12 _ _ at_one (serves _ w _ refl w_long refl refl refl refl refl refl) refl refl refl refl refl refl
       and example 13 _ unerased at_zero
-      (serves _ z _ refl z_long refl refl refl refl refl ∙ rw z_unerased) refl refl refl refl refl refl
-      and example 14 _ _ at_error (serves _ f _ refl sized refl refl refl refl refl) refl refl refl refl refl refl
+      (serves _ z _ refl z_long refl refl refl refl refl refl ∙ rw z_unerased) refl refl refl refl refl refl
+      and example 14 _ _ at_error (serves _ f _ refl sized refl refl refl refl refl refl) refl refl refl refl refl refl
       and example 15 _ _ at_start (stalls _ f _ refl sized refl refl refl refl refl) refl refl refl refl refl refl
       and none
 

@@ -1,7 +1,7 @@
 -- The ways through a call: what holds of each of them holds of the call. Every demand goes by these cases, so that the tests of the
 -- step are taken apart once. Assumes nothing.
 use Prim.Native.Nat.{ℕ, ◌+◌, ◌-◌, ◌≤◌}
-use mathlib.Core.Bool.{true, false, ◌&&◌, ◌||◌, false≢true}
+use mathlib.Core.Bool.{true, false, ◌&&◌, ◌||◌}
 use mathlib.Core.List.{List}
 use mathlib.Core.Logic.{⊎_elim}
 use mathlib.Core.Path.{◌≡◌, refl, sym, subst, subst⁻¹}
@@ -17,7 +17,8 @@ use Rattle.session.specs.Rules.{in_application}
 use Rattle.session.specs.declared.Session.{Session}
 use Rattle.session.proofs.Tests.{left_of, right_of, unless}
 use Rattle.request.specs.Commands.{prog, read, check, erase, info, bin, reset}
-use Rattle.request.specs.Request.{w_length, request_of, allowed_of}
+use Rattle.std.specs.Prelude.{Option, Some, None}
+use Rattle.request.specs.Request.{w_length, request_of, allowed_of, permitted}
 use Rattle.request.specs.declared.Request.{Request}
 use Rattle.answers.specs.declared.Outcome.{Outcome}
 use Rattle.answers.specs.Answers.{Leaves, leaves}
@@ -30,7 +31,7 @@ use Rattle.command.specs.Download.{closed_of, piece_of, dnload_of}
 use Rattle.command.proofs.Laws.{pick, long_enough}
 use Rattle.loader.specs.Reply.{getstatus_of, getstate_of, query_of}
 use Rattle.loader.specs.Upload.{upload_of}
-use Rattle.loader.specs.Step.{ready, Decided, with_reply, served, decided_of, settled, step_of}
+use Rattle.loader.specs.Step.{ready, Decided, with_reply, served, asked_of, decided_of, settled, step_of}
 use Rattle.loader.proofs.Laws.{ready_fit, allowed_loading}
 use Rattle.demands.specs.Safe.Refused.{FaultStatus, out_of_range, bytes_missing, bad_command}
 use Rattle.demands.proofs.Ground.Finished.{finished, with_flash, stored_of, wiped_of, bytes_finished, wipe_finished}
@@ -38,7 +39,7 @@ use Rattle.demands.proofs.Ground.Finished.{finished, with_flash, stored_of, wipe
 -- a DNLOAD that is served in a state
 pub record Loads (s : Session) (f setup : List ℕ) (state : ℕ) : Type 0 where
   pub fit : Ready s f
-  pub is_dnload_lem : request_of setup ≡ Request.Dnload
+  pub is_dnload_lem : request_of setup ≡ Some Request.Dnload
   pub here : s.phase.state.0 ≡ state
 
 -- a well-formed command that is none of the six before it is RESET, of eight bytes
@@ -74,10 +75,10 @@ pub data ComesTo (d : List ℕ) : Type 0 where
 pub record Ways (s : Session) (f setup d reply : List ℕ) (P : Leaves → Type 0) : Type 0 where
   pub unfits : ready s (length f) setup (length d) (length reply) ≡ false → P (leaves (unfit_of s) f reply)
   pub stalls :
-      Ready s f → allowed_of (request_of setup) (w_length setup) s.phase.state.0 ≡ false
+      Ready s f → permitted (request_of setup) (w_length setup) s.phase.state.0 ≡ false
       → P (leaves (stall_of s) f reply)
   pub faults :
-      Ready s f → request_of setup ≡ Request.Dnload → (status : ℕ) → FaultStatus status
+      Ready s f → request_of setup ≡ Some Request.Dnload → (status : ℕ) → FaultStatus status
       → P (leaves (fault_of s status) f reply)
   pub unerased :
       Loads s f setup idle → ComesTo d → in_application s.board (word_at d 2) (long_at d 4) ≡ true
@@ -111,10 +112,10 @@ pub record Ways (s : Session) (f setup d reply : List ℕ) (P : Leaves → Type 
   pub bins : Loads s f setup idle → P (leaves (bin_of s (get_or d 1 0)) f reply)
   pub resets : Loads s f setup idle → length d ≡ 8 → get_or d 0 0 ≡ reset → P (leaves (reset_of s) f reply)
   pub uploads :
-      Ready s f → request_of setup ≡ Request.Upload → P (with_flash (upload_of s f (w_length setup) reply) f)
-  pub polls : Ready s f → request_of setup ≡ Request.GetStatus → P (with_flash (getstatus_of s reply) f)
-  pub tells : Ready s f → request_of setup ≡ Request.GetState → P (with_flash (getstate_of s reply) f)
-  pub queries : Ready s f → request_of setup ≡ Request.Query → P (with_flash (query_of s reply) f)
+      Ready s f → request_of setup ≡ Some Request.Upload → P (with_flash (upload_of s f (w_length setup) reply) f)
+  pub polls : Ready s f → request_of setup ≡ Some Request.GetStatus → P (with_flash (getstatus_of s reply) f)
+  pub tells : Ready s f → request_of setup ≡ Some Request.GetState → P (with_flash (getstate_of s reply) f)
+  pub queries : Ready s f → request_of setup ≡ Some Request.Query → P (with_flash (query_of s reply) f)
   pub idles : Ready s f → P (leaves (taken_of (to_idle s)) f reply)
 
 module _ (s : Session) (f setup d reply : List ℕ) (P : Leaves → Type 0) (w : Ways s f setup d reply P) where
@@ -221,7 +222,7 @@ module _ (s : Session) (f setup d reply : List ℕ) (P : Leaves → Type 0) (w :
       (λ _. alone _ (w.faults l.fit l.is_dnload_lem address (out_of_range refl))))
 
   dnload_ways :
-      Ready s f → request_of setup ≡ Request.Dnload
+      Ready s f → request_of setup ≡ Some Request.Dnload
       → allowed_of Request.Dnload (w_length setup) s.phase.state.0 ≡ true → Finishes (dnload_of s f d)
   unfolding dnload_of
   dnload_ways r q a =
@@ -235,7 +236,7 @@ module _ (s : Session) (f setup d reply : List ℕ) (P : Leaves → Type 0) (w :
   Settles x = P (settled x f d)
 
   served_ways :
-      (q : Request) → request_of setup ≡ q → Ready s f → allowed_of q (w_length setup) s.phase.state.0 ≡ true
+      (q : Request) → request_of setup ≡ Some q → Ready s f → allowed_of q (w_length setup) s.phase.state.0 ≡ true
       → Settles (served q s f (w_length setup) d reply)
   unfolding served Settles Finishes settled job_done allowed_of
   served_ways Request.Dnload e r a = dnload_ways r e a
@@ -245,14 +246,17 @@ module _ (s : Session) (f setup d reply : List ℕ) (P : Leaves → Type 0) (w :
   served_ways Request.GetState e r a = w.tells r e
   served_ways Request.Abort e r a = w.idles r
   served_ways Request.Query e r a = w.queries r e
-  served_ways Request.Nothing e r a = absurd (false≢true a)
+
+  asked_ways : (q : Option Request) → request_of setup ≡ q → Ready s f → Settles (asked_of q s f (w_length setup) d reply)
+  unfolding Settles settled job_done
+  asked_ways (Some q) e r =
+      pick Settles (allowed_of q (w_length setup) s.phase.state.0) _ _ (λ a. served_ways q e r a) (λ n. w.stalls r (rw e n))
+  asked_ways None e r = w.stalls r (rw e)
 
   pub every_way : P (step_of s f setup d reply)
   unfolding step_of Settles decided_of settled job_done
   every_way =
       pick Settles (ready s (length f) setup (length d) (length reply)) _ _
       (λ r.
-      let fit = ready_fit s f setup (length d) (length reply) r in
-      pick Settles (allowed_of (request_of setup) (w_length setup) s.phase.state.0) _ _
-      (λ a. served_ways (request_of setup) refl fit a) (λ n. w.stalls fit n))
+      asked_ways (request_of setup) refl (ready_fit s f setup (length d) (length reply) r))
       (λ r. w.unfits r)

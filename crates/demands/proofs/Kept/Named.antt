@@ -19,6 +19,7 @@ use Rattle.session.specs.declared.Phase.{Phase}
 use Rattle.session.specs.declared.Session.{Session}
 use Rattle.session.proofs.Tests.{right_of, either}
 use Rattle.numbers.specs.Numbers.{word_at, long_at}
+use Rattle.std.specs.Prelude.{Some}
 use Rattle.request.specs.Request.{request_of}
 use Rattle.request.specs.declared.Request.{Request}
 use Rattle.answers.specs.Answers.{Leaves, Told}
@@ -54,7 +55,7 @@ module _ (noted : NamedRange) (s : Session) (c : Call) (l : Leaves) where
   unfolding took_dnload
   elsewhere state n = no_right (eqb (heard l) 0 && is_dnload (request_of c.setup)) _ (ne_eqb _ _ n)
 
-  module _ (h : heard l ≡ 0) (q : request_of c.setup ≡ Request.Dnload) where
+  module _ (h : heard l ≡ 0) (q : request_of c.setup ≡ Some Request.Dnload) where
     took : (state : ℕ) → s.phase.state.0 ≡ state → took_dnload state s c l ≡ true
     unfolding took_dnload
     took state e = rw (h, q, eq-eqb s.phase.state.0 state e)

@@ -1,6 +1,6 @@
 -- The answers that refuse leave what their definitions write down, and a call is unfit by the first test alone. Assumes nothing.
 use Prim.Native.Nat.{ℕ, ◌+◌, ◌-◌, ◌≤◌}
-use mathlib.Core.Bool.{Bool, true, false, cond, false≢true}
+use mathlib.Core.Bool.{Bool, true, false, false≢true}
 use mathlib.Core.Logic.{◌⊎◌, inl, inr, ⊎_elim}
 use mathlib.Core.Path.{◌≡◌, refl, sym, ap, ◌∙◌, subst, subst⁻¹}
 use native.Mathlib.Omega.{arith}
@@ -15,7 +15,8 @@ use Rattle.session.specs.declared.Download.{Download}
 use Rattle.session.specs.declared.Upload.{Upload}
 use Rattle.session.specs.declared.Session.{Session}
 use Rattle.numbers.specs.Numbers.{word_at, long_at}
-use Rattle.request.specs.Request.{w_length, request_of, allowed_of}
+use Rattle.std.specs.Prelude.{Some}
+use Rattle.request.specs.Request.{w_length, request_of}
 use Rattle.request.specs.declared.Request.{Request}
 use Rattle.answers.specs.Answers.{Leaves, leaves}
 use Rattle.answers.specs.Moves.{moved_to, to_error, stall_of, unfit_of, fault_of, reset_of}
@@ -24,9 +25,9 @@ use Rattle.command.specs.Download.{all_erased, noted, info_of, bin_of}
 use Rattle.command.proofs.Laws.{pick, ready-range}
 use Rattle.loader.specs.Reply.{getstatus_of, getstate_of, query_of, answered}
 use Rattle.loader.specs.Upload.{upload_of}
-use Rattle.loader.specs.Step.{ready, served, step_of, decided_of, only, Decided, settled}
+use Rattle.loader.specs.Step.{ready, asked_of, step_of, decided_of, Decided, settled}
 use Rattle.demands.specs.Calls.{heard, Call, Site, called}
-use Rattle.demands.specs.Asked.{Prepared, Form, Allowed, Asks, NoRequest}
+use Rattle.demands.specs.Asked.{Prepared, Form, Asks, NoRequest}
 use Rattle.demands.specs.Commanded.{Legal, Searches, prog, check}
 use Rattle.demands.specs.Safe.Refused.{Settled, InError, Stalled, FaultStatus, out_of_range, bytes_missing, bad_command, unsearched}
 use Rattle.demands.specs.Safe.Refused.{not_erased, Faulted, AsFresh, AnswerRows}
@@ -164,10 +165,10 @@ unerased_row at c q searches fits n =
     }
 
 -- the rows of a prepared call, and of any other
-in_form : (at : Site) (c : Call) → Prepared at c → request_of c.setup ≡ Request.Dnload → (n : ℕ) × Form c.setup n Request.Dnload
+in_form : (at : Site) (c : Call) → Prepared at c → request_of c.setup ≡ Some Request.Dnload → (n : ℕ) × Form c.setup n Request.Dnload
 in_form at c p q = (
   w_length c.setup,
-  request_form c.setup p.setup_bytes Request.Dnload q (λ z. subst (λ (r : Request). Allowed r 0 5) z (inr refl)),
+  request_form c.setup p.setup_bytes Request.Dnload q,
 )
 
 -- a command that comes to the search, as the demands have it
@@ -317,19 +318,12 @@ module _ (at : Site) (c : Call) where
 pub unfit_exactly_holds : UnfitExactly step_of
 unfit_exactly_holds = record { unprepared = unprepared_unfit; prepared = prepared_served }
 
--- whether the table allows what a setup is read as
-abbrev pub allowed_call : Site → Call → Bool
-allowed_call at c = allowed_of (request_of c.setup) (w_length c.setup) at.session.phase.state.0
-
 -- a prepared call goes on to form and state
 pub goes_on :
     (at : Site) (c : Call) → Prepared at c
     → called step_of at c
     ≡ settled
-    (cond (allowed_call at c)
-    (served (request_of c.setup) at.session at.flash (w_length c.setup) c.bytes c.reply)
-    (only (stall_of at.session) c.reply)) at.flash
-    c.bytes
+    (asked_of (request_of c.setup) at.session at.flash (w_length c.setup) c.bytes c.reply) at.flash c.bytes
 unfolding called step_of decided_of
 goes_on at c p = rw (prepared_ready at c p)
 

@@ -1,5 +1,5 @@
 -- Kept: over any history a call changes no byte but those that were named.
-use Rattle.std.specs.Prelude.{ℕ, ◌+◌, ◌≤◌, ◌<◌, Bool, true, false, cond, ◌&&◌, List, [], ◌∷◌, ◌⊎◌, ◌≡◌, eqb, get_or}
+use Rattle.std.specs.Prelude.{ℕ, ◌+◌, ◌≤◌, ◌<◌, Bool, true, false, cond, ◌&&◌, List, [], ◌∷◌, Option, Some, None, ◌⊎◌, ◌≡◌, eqb, get_or}
 use Rattle.flash.specs.Flash.{start_of}
 use Rattle.session.specs.declared.Session.{Session}
 use Rattle.numbers.specs.Numbers.{word_at, long_at}
@@ -35,15 +35,15 @@ unfoldable pub command_names : List ℕ → NamedRange
 command_names d = cond (eqb (get_or d 0 0) 1) (prog_names d) (cond (eqb (get_or d 0 0) 4) (erase_names d) none)
 
 -- DNLOAD, and no other request
-abbrev pub is_dnload : Request → Bool
-is_dnload Request.Dnload = true
-is_dnload Request.Upload = false
-is_dnload Request.GetStatus = false
-is_dnload Request.ClrStatus = false
-is_dnload Request.GetState = false
-is_dnload Request.Abort = false
-is_dnload Request.Query = false
-is_dnload Request.Nothing = false
+abbrev pub is_dnload : Option Request → Bool
+is_dnload (Some Request.Dnload) = true
+is_dnload (Some Request.Upload) = false
+is_dnload (Some Request.GetStatus) = false
+is_dnload (Some Request.ClrStatus) = false
+is_dnload (Some Request.GetState) = false
+is_dnload (Some Request.Abort) = false
+is_dnload (Some Request.Query) = false
+is_dnload None = false
 
 -- a DNLOAD that was taken in a state
 unfoldable pub took_dnload : ℕ → Session → Call → Leaves → Bool

@@ -1,51 +1,52 @@
 -- By whether the call is ready and the request allowed, from which `serve` has what it asks. Assumes nothing.
 use mathlib.Core.Bool.{not}
-use Prim.Native.Nat.{ℕ}
-use mathlib.Core.Path.{ap, sym, ap₂, ◌∙◌}
-use native.Mathlib.Omega.{arith}
+use mathlib.Core.Path.{refl, ap}
 use lib.ListN.{length}
-use Rattle.request.specs.declared.Request.{Request}
-use Rattle.request.proofs.Laws.{upload-length}
+use Rattle.std.proofs.lemmas.Bool.{false_from_ne_true, false≢true}
 use Rattle.jobs.proofs.Picks.{yes_is, no_is, refused, passed}
-use Rattle.loader.specs.Step.{served, decided_of}
-use Rattle.loader.proofs.Laws.{ready_fit, ready_room, allowed_read, only_told}
+use Rattle.loader.specs.Step.{decided_of}
+use Rattle.loader.proofs.Laws.{ready_fit, ready_room, asked_none, asked_yes, asked_no, asked_few, only_told}
 use Rattle.loader.proofs.decide.Goals as goal
 
-pub returns-then-not-is_ready : goal.returns-then-not-is_ready
+pub returns-in_default : goal.returns-in_default
 unfolding decided_of
-returns-then-not-is_ready c =
-    let s = c.args.s in
-    no_is _ _ _ _ (refused _ _ c.is_ready.ensures (ap not c.if-not-is_ready.true))
-    (only_told s _ _ _ c.only.ensures _ c.unfit.ensures)
+returns-in_default c =
+    no_is _ _ _ _ (false_from_ne_true _ (λ e. false≢true (c.in_default.ensures.ready.1 e)))
+    (only_told c.args.s _ _ _ c.only.ensures _ c.unfit.ensures)
+
+pub returns-in_default-request : goal.returns-in_default-request
+unfolding decided_of
+returns-in_default-request c =
+    let read = c.in-Some.ensures in
+    yes_is _ _ _ _ (read.ready.0 refl)
+    (asked_none c.args.s c.args.flash.now c.args.d.now _ _ _ _ read.parts c.in_default-request.ensures
+    (only_told c.args.s _ _ _ c.only-in_default-request.ensures _ c.stalled.ensures))
 
 pub returns-then-not-allowed : goal.returns-then-not-allowed
 unfolding decided_of
 returns-then-not-allowed c =
-    let test = allowed_read c.args.s c.allowed.ensures c.read_setup-r.ensures c.length_of-asked.ensures in
-    yes_is _ _ _ _ (passed _ _ c.is_ready.ensures (ap not c.if-not-is_ready.false))
-    (no_is _ _ _ _ (refused _ _ test (ap not c.if-not-allowed.true))
-    (only_told c.args.s _ _ _ c.only-then-not-allowed.ensures _ c.stalled.ensures))
+    let read = c.in-Some.ensures in
+    yes_is _ _ _ _ (read.ready.0 refl)
+    (asked_no c.args.s c.args.flash.now c.args.d.now _ _ _ _ read.parts _ c.in-Some-request.ensures
+    (refused _ _ c.allowed.ensures (ap not c.if-not-allowed.true))
+    (only_told c.args.s _ _ _ c.only-then-not-allowed.ensures _ c.stalled-then-not-allowed.ensures))
 
 pub serve-requires : goal.serve-requires
 serve-requires c =
-    let flash = c.args.flash.now in
-    let setup = c.args.setup.now in
-    let long = length c.args.d.now in
-    let e = passed _ _ c.is_ready.ensures (ap not c.if-not-is_ready.false) in
+    let a = c.args in
+    let read = c.in-Some.ensures in
+    let long = length a.d.now in
     record {
-      prepared = ready_fit c.args.s flash setup long (length c.args.reply.now) e;
+      prepared = ready_fit a.s a.flash.now a.setup.now long (length a.reply.now) (read.ready.0 refl);
       permitted = passed _ _ c.allowed.ensures (ap not c.if-not-allowed.false);
-      few = λ q. omega (arith, c.length_of-asked.ensures, (upload-length setup (sym c.read_setup-r.ensures ∙ q)).1);
-      roomy = ready_room c.args.s flash setup long _ e;
+      few = asked_few _ _ _ read.parts c.in-Some-request.ensures;
+      roomy = ready_room a.s a.flash.now a.setup.now long _ (read.ready.0 refl);
     }
 
 pub returns : goal.returns
 unfolding decided_of
 returns c =
-    let r = c.read_setup-r.ensures in
-    let n = c.length_of-asked.ensures in
-    let test = allowed_read c.args.s c.allowed.ensures r n in
-    yes_is _ _ _ _ (passed _ _ c.is_ready.ensures (ap not c.if-not-is_ready.false))
-    (yes_is _ _ _ _ (passed _ _ test (ap not c.if-not-allowed.false))
-    (c.serve.ensures
-    ∙ ap₂ (λ (q : Request) (k : ℕ). served q c.args.s c.args.flash.now k c.args.d.now c.args.reply.now) r n))
+    let read = c.in-Some.ensures in
+    yes_is _ _ _ _ (read.ready.0 refl)
+    (asked_yes c.args.s c.args.flash.now c.args.d.now _ _ _ _ read.parts _ c.in-Some-request.ensures
+    (passed _ _ c.allowed.ensures (ap not c.if-not-allowed.false)) c.serve.ensures)

@@ -62,9 +62,3 @@ returns-in-Query c =
     let s = c.args.s in
     as_told _ _ _ _ _ _ _ _ c.in-Query.is
     (answer_told s _ _ _ c.only-in-Query.ensures _ c.query.ensures)
-
-pub returns-in-Nothing : goal.returns-in-Nothing
-unfolding served
-returns-in-Nothing c =
-    let s = c.args.s in
-    as_told _ _ _ _ _ _ _ _ c.in-Nothing.is (only_told s _ _ _ c.only-in-Nothing.ensures _ c.stalled.ensures)

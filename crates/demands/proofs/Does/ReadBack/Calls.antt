@@ -9,6 +9,7 @@ use borrow.Author.Tests.{le-leb}
 use lib.ListN.{length, take}
 use Rattle.session.specs.declared.Session.{Session}
 use Rattle.request.specs.declared.Request.{Request}
+use Rattle.std.specs.Prelude.{Option, Some}
 use Rattle.request.specs.Request.{setup_of, form_of, request_of, w_length, data_asked, allowed_of}
 use Rattle.answers.specs.declared.Answer.{Answer}
 use Rattle.answers.specs.Answers.{Leaves, outcome, leaves}
@@ -18,7 +19,7 @@ use Rattle.command.specs.Ready.{Ready}
 use Rattle.command.specs.Download.{dnload_of}
 use Rattle.loader.specs.Reply.{getstatus_of}
 use Rattle.loader.specs.Upload.{upload_of}
-use Rattle.loader.specs.Step.{ready, served, step_of, decided_of, settled, Decided}
+use Rattle.loader.specs.Step.{ready, served, asked_of, step_of, decided_of, settled, Decided}
 use Rattle.demands.specs.Calls.{Call, Site, called, after_call}
 use Rattle.demands.proofs.Ground.Prepared.{prepared_from, prepared_ready}
 use Rattle.demands.specs.Does.ReadBack.{Host, asks, replied, was_taken, ran_after, run}
@@ -51,7 +52,7 @@ module _ (n : ℕ) (few : n ≤ 1024) where
   unfolding data_asked setup_of setup_for
   dnload-data_asked = two_bytes
 
-  pub dnload_request : request_of (setup_for 0x21 1 n) ≡ Request.Dnload
+  pub dnload_request : request_of (setup_for 0x21 1 n) ≡ Some Request.Dnload
   unfolding form_of setup_of setup_for
   dnload_request = rw (two_bytes, le-leb 0 n (omega arith), le-leb n 1024 few)
 
@@ -72,15 +73,12 @@ module _
       prepared_ready (site_of s f) c (prepared_from (site_of s f) c eight room r.sized brought r.fit)
 
   pub is_served :
-      (q : Request) (n : ℕ) → request_of setup ≡ q → w_length setup ≡ n → allowed_of q n s.phase.state.0 ≡ true
+      (q : Request) (n : ℕ) → request_of setup ≡ Some q → w_length setup ≡ n → allowed_of q n s.phase.state.0 ≡ true
       → step_of s f setup d reply ≡ settled (served q s f n d reply) f d
   unfolding step_of decided_of
   is_served q n e l a =
-      let allowed : allowed_of (request_of setup) (w_length setup) s.phase.state.0 ≡ true =
-      ap₂ (λ (x : Request) (m : ℕ). allowed_of x m s.phase.state.0) e l ∙ a
-      in
       ap (λ (x : Decided). settled x f d)
-      (is_yes _ _ _ is_ready ∙ is_yes _ _ _ allowed ∙ ap₂ (λ (x : Request) (m : ℕ). served x s f m d reply) e l)
+      (is_yes _ _ _ is_ready ∙ ap₂ (λ (x : Option Request) (m : ℕ). asked_of x s f m d reply) e l ∙ is_yes _ _ _ a)
 
 -- the host's calls
 module _ (s : Session) (f lent : List ℕ) (r : Ready s f) (room : 1024 ≤ length lent) where
