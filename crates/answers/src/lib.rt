@@ -8,11 +8,10 @@ ghost use Rattle.answers.specs.Answers.{answer_number, heard, heard_at};
 ghost use Rattle.answers.specs.declared.Answer.{Answer};
 ghost use Rattle.answers.specs.Moves.{moved_to, to_idle, to_error, to_sync, stall_of, unfit_of, fault_of, reset_of};
 
-use flash::Addr;
-use session::{Download, Phase, Session, State, Status, Talk};
+use session::{Download, Phase, Session, State, Status, Talk, Upload};
 
 // What the host hears.
-#[derive(Clone, Copy)]
+#[derive(Clone, Copy, PartialEq, Eq, Debug)]
 pub enum Answer {
     Taken,
     Stalled,
@@ -38,126 +37,130 @@ pub struct Heard {
 }
 
 // The number that the host hears for an answer.
-pub fn number(answer: Answer) -> u32
-    ensures { result ≡ answer_number answer }
-{
-    match answer {
-        Answer::Taken => 0,
-        Answer::Stalled => 1,
-        Answer::Unfit => 2,
-        Answer::Faulted => 3,
-        Answer::ResetAsked => 4,
+impl From<Answer> for u32 {
+    ghost from_gives = { λ answer n. n ≡ answer_number answer };
+
+    fn from(answer: Answer) -> u32 {
+        match answer {
+            Answer::Taken => 0,
+            Answer::Stalled => 1,
+            Answer::Unfit => 2,
+            Answer::Faulted => 3,
+            Answer::ResetAsked => 4,
+        }
     }
 }
 
 // The talk in another state than upload idle: an upload that ran is over.
-pub fn moved(s: Session, state: State, status: Status, after: State, down: Download) -> Talk
-    ensures { with_talk s result ≡ moved_to s (phase_of state.0 status.0 after.0) down }
+#[tactic(auto, unfolding(crate::specs::Moves::moved_to))]
+pub fn moved(s: Session, phase: Phase, down: Download) -> Talk
+    ensures { with_talk s result ≡ moved_to s phase down }
 {
-    let phase = Phase {
-        state: state,
-        status: status,
-        after: after,
-    };
-    let mut t = session::talk_of(s);
-    t.phase = phase;
-    t.down = down;
-    t.up.place = 0;
-    t
-}
-
-fn none() -> Download
-    ensures { result ≡ down_of 0 0 }
-{
-    Download {
-        place: Addr(0),
-        left: 0,
+    Talk {
+        phase,
+        down,
+        up: Upload { place: 0, ..s.up },
+        ..s.talk()
     }
 }
 
 pub fn idle(s: Session) -> Talk
     ensures { with_talk s result ≡ to_idle s }
 {
-    moved(s, State::IDLE, Status::OK, State::IDLE, none())
+    moved(s, Phase::IDLE, Download::NONE)
 }
 
 fn error(s: Session, status: Status) -> Talk
     ensures { with_talk s result ≡ to_error s status.0 }
 {
-    moved(s, State::ERROR, status, State::IDLE, none())
+    let phase = Phase {
+        state: State::ERROR,
+        status,
+        ..Phase::IDLE
+    };
+    moved(s, phase, Download::NONE)
 }
 
 // Download sync that leads back to idle: no download runs.
 pub fn sync(s: Session) -> Talk
     ensures { with_talk s result ≡ to_sync s 2 (down_of 0 0) }
 {
-    moved(s, State::DOWNLOAD_SYNC, Status::OK, State::IDLE, none())
+    let phase = Phase {
+        state: State::DOWNLOAD_SYNC,
+        ..Phase::IDLE
+    };
+    moved(s, phase, Download::NONE)
 }
 
 // Manifest sync: the download is closed.
 pub fn manifest(s: Session) -> Talk
     ensures { with_talk s result ≡ moved_to s (phase_of 6 0 2) (down_of 0 0) }
 {
-    moved(s, State::MANIFEST_SYNC, Status::OK, State::IDLE, none())
+    let phase = Phase {
+        state: State::MANIFEST_SYNC,
+        ..Phase::IDLE
+    };
+    moved(s, phase, Download::NONE)
 }
 
-pub fn taken(talk: Talk) -> Heard
-    ensures { result ≡ heard Answer.Taken 0 talk }
-{
-    Heard {
-        answer: Answer::Taken,
-        count: 0,
-        talk: talk,
+impl Heard {
+    pub fn taken(talk: Talk) -> Heard
+        ensures { result ≡ heard Answer.Taken 0 talk }
+    {
+        Heard {
+            answer: Answer::Taken,
+            count: 0,
+            talk,
+        }
     }
-}
 
-#[tactic(auto, unfolding(crate::specs::Moves::stall_of))]
-pub fn stalled(s: Session) -> Heard
-    ensures { heard_at s result ≡ stall_of s }
-{
-    if s.phase.state == State::ERROR {
-        return Heard {
+    #[tactic(auto, unfolding(crate::specs::Moves::stall_of))]
+    pub fn stalled(s: Session) -> Heard
+        ensures { heard_at s result ≡ stall_of s }
+    {
+        let talk = if s.phase.state == State::ERROR {
+            s.talk()
+        } else {
+            error(s, Status::STALLED)
+        };
+        Heard {
             answer: Answer::Stalled,
             count: 0,
-            talk: session::talk_of(s),
-        };
+            talk,
+        }
     }
-    Heard {
-        answer: Answer::Stalled,
-        count: 0,
-        talk: error(s, Status::STALLED),
-    }
-}
 
-pub fn unfit(s: Session) -> Heard
-    ensures { heard_at s result ≡ unfit_of s }
-{
-    Heard {
-        answer: Answer::Unfit,
-        count: 0,
-        talk: session::talk_of(s),
+    #[tactic(auto, unfolding(crate::specs::Moves::unfit_of))]
+    pub fn unfit(s: Session) -> Heard
+        ensures { heard_at s result ≡ unfit_of s }
+    {
+        Heard {
+            answer: Answer::Unfit,
+            count: 0,
+            talk: s.talk(),
+        }
     }
-}
 
-pub fn faulted(s: Session, status: Status) -> Heard
-    ensures { heard_at s result ≡ fault_of s status.0 }
-{
-    let talk = error(s, status);
-    Heard {
-        answer: Answer::Faulted,
-        count: 0,
-        talk: talk,
+    #[tactic(auto, unfolding(crate::specs::Moves::fault_of))]
+    pub fn faulted(s: Session, status: Status) -> Heard
+        ensures { heard_at s result ≡ fault_of s status.0 }
+    {
+        Heard {
+            answer: Answer::Faulted,
+            count: 0,
+            talk: error(s, status),
+        }
     }
-}
 
-pub fn reset(s: Session) -> Heard
-    requires { fit_of s ≡ true }
-    ensures { heard_at s result ≡ reset_of s }
-{
-    let talk = session::fresh_talk(s.board);
-    Heard {
-        answer: Answer::ResetAsked,
-        count: 0,
-        talk: talk,
+    #[tactic(auto, using(session::proofs::Laws::fit_kept), unfolding(crate::specs::Moves::reset_of, session::specs::Session::fresh_of))]
+    pub fn reset(s: Session) -> Heard
+        requires { fit_of s ≡ true }
+        ensures { heard_at s result ≡ reset_of s }
+    {
+        Heard {
+            answer: Answer::ResetAsked,
+            count: 0,
+            talk: s.board.fresh_talk(),
+        }
     }
 }

@@ -34,6 +34,7 @@ struct Handled {
 
 // The fresh session of a board whose application starts at block `first` of `blocks`, or answer 2 and a session of zeros.
 #[unsafe(no_mangle)]
+#[tactic(auto, unfolding(crate::specs::Board::started_of))]
 pub extern "C" fn mullirim_start(
     flash: &[u8],
     first: u32,
@@ -43,29 +44,26 @@ pub extern "C" fn mullirim_start(
 ) -> Started
     ensures { result ≡ started_of flash.now first blocks part klass }
 {
-    let o = loader::start(flash, Block(first), Block(blocks), part, klass);
-    let answer = o.answer;
-    let session = o.session;
+    let outcome = loader::start(flash, Block(first), Block(blocks), part, klass);
     Started {
-        code: answers::number(answer),
-        session: session,
+        code: u32::from(outcome.answer),
+        session: outcome.session,
     }
 }
 
 // One request by value, with numbers for the answer. It is apart from `mullirim_request`, so that there the store alone is left.
+#[tactic(auto, unfolding(crate::specs::Board::requested_of))]
 fn handle(session: Session, flash: &mut [u8], setup: &[u8], d: &[u8], reply: &mut [u8]) -> Handled
     ensures { at_board result.answer result.session flash.new reply.new
         ≡ requested_of session flash.old setup.now d.now reply.old }
 {
-    let o = loader::step(session, flash, setup, d, reply);
-    let answer = o.answer;
-    let next = o.session;
+    let outcome = loader::step(session, flash, setup, d, reply);
     Handled {
         answer: Reply {
-            code: answers::number(answer),
-            count: o.count,
+            code: u32::from(outcome.answer),
+            count: outcome.count,
         },
-        session: next,
+        session: outcome.session,
     }
 }
 

@@ -16,34 +16,32 @@ use answers::Heard;
 use flash::{Addr, Block};
 use jobs::{Decision, Job};
 use request::Command;
-use session::{Download, Session, State, Status, Upload};
+use session::{Download, Phase, Session, State, Status, Upload};
 
 // The call's data, but for the first `skip` bytes of it, is to go to its places, and the download goes on behind these n bytes.
 fn write(s: Session, at: Addr, skip: u32, n: u32, left: u32) -> Decision
     requires { at.0 + n < 4294967296 }
     ensures { planned s result ≡ wrote_of s at.0 skip n left }
 {
+    let phase = Phase {
+        state: State::DOWNLOAD_SYNC,
+        status: Status::OK,
+        after: State::DOWNLOAD_IDLE,
+    };
     let down = Download {
         place: Addr(at.0 + n),
-        left: left,
+        left,
     };
-    let h = answers::taken(answers::moved(
-        s,
-        State::DOWNLOAD_SYNC,
-        Status::OK,
-        State::DOWNLOAD_IDLE,
-        down,
-    ));
     Decision {
-        heard: h,
-        job: Job::Bytes { at: at, skip: skip },
+        heard: Heard::taken(answers::moved(s, phase, down)),
+        job: Job::Bytes { at, skip },
     }
 }
 
 fn fault(s: Session, status: Status) -> Decision
     ensures { planned s result ≡ fault_plan s status.0 }
 {
-    jobs::only(answers::faulted(s, status))
+    Decision::only(Heard::faulted(s, status))
 }
 
 // A decision that holds if all of a range is erased; else the fault. Either way what the search found is told.
@@ -67,7 +65,7 @@ fn prog(s: Session, flash: &[u8], block: Block, len: u32, n: usize) -> Decision
     requires { Ready s flash.now }
     ensures { planned s result ≡ prog_of s flash.now block.0 len n }
 {
-    if !session::in_application(s.board, block, len) {
+    if !s.board.in_application(block, len) {
         return fault(s, Status::ADDRESS);
     }
     if (len as usize) < n {
@@ -80,24 +78,24 @@ fn prog(s: Session, flash: &[u8], block: Block, len: u32, n: usize) -> Decision
 fn read(s: Session, block: Block, len: u32) -> Heard
     ensures { heard_at s result ≡ read_of s block.0 len }
 {
-    if !session::in_application(s.board, block, len) {
-        return answers::faulted(s, Status::ADDRESS);
+    if !s.board.in_application(block, len) {
+        return Heard::faulted(s, Status::ADDRESS);
     }
     let mut t = s;
     t.up.choice = Upload::FLASH_STREAM;
     t.up.first.0 = block.0;
     t.up.len = len;
-    answers::taken(answers::sync(t))
+    Heard::taken(answers::sync(t))
 }
 
 fn check(s: Session, flash: &[u8], block: Block, len: u32) -> Decision
     requires { Ready s flash.now }
     ensures { planned s result ≡ plan_of (check_of s flash.now block.0 len) Job.Nothing }
 {
-    if !session::in_application(s.board, block, len) {
+    if !s.board.in_application(block, len) {
         return fault(s, Status::ADDRESS);
     }
-    let x = jobs::only(answers::taken(answers::sync(s)));
+    let x = Decision::only(Heard::taken(answers::sync(s)));
     if_erased(s, flash, block, len, x)
 }
 
@@ -107,15 +105,14 @@ fn erase(s: Session, block: Block, count: u32) -> Decision
     ensures { planned s result ≡ erase_of s block.0 count }
 {
     let size = Block(count).start();
-    if !session::in_application(s.board, block, size.0) {
+    if !s.board.in_application(block, size.0) {
         return fault(s, Status::ADDRESS);
     }
-    let h = answers::taken(answers::sync(s));
     Decision {
-        heard: h,
+        heard: Heard::taken(answers::sync(s)),
         job: Job::Wipe {
             first: block,
-            count: count,
+            count,
         },
     }
 }
@@ -125,7 +122,7 @@ fn info(s: Session) -> Heard
 {
     let mut t = s;
     t.up.choice = Upload::INFO_BYTES;
-    answers::taken(answers::sync(t))
+    Heard::taken(answers::sync(t))
 }
 
 // BIN's byte to the prefix flag: not zero asks for the bytes alone.
@@ -144,7 +141,7 @@ fn bin(s: Session, flag: u8) -> Heard
     let mut t = s;
     let on = prefix_for(flag);
     t.up.prefix = on;
-    answers::taken(answers::sync(t))
+    Heard::taken(answers::sync(t))
 }
 
 fn well_formed(d: &[u8]) -> bool
@@ -167,12 +164,12 @@ fn by_number(s: Session, flash: &[u8], d: &[u8]) -> Decision
     let len = numbers::long(d, 4);
     match code {
         Command::PROG => prog(s, flash, block, len, d.len() - 8),
-        Command::READ => jobs::only(read(s, block, len)),
+        Command::READ => Decision::only(read(s, block, len)),
         Command::CHECK => check(s, flash, block, len),
         Command::ERASE => erase(s, block, numbers::word(d, 4) as u32),
-        Command::INFO => jobs::only(info(s)),
-        Command::BIN => jobs::only(bin(s, d[1])),
-        _ => jobs::only(answers::reset(s)),
+        Command::INFO => Decision::only(info(s)),
+        Command::BIN => Decision::only(bin(s, d[1])),
+        _ => Decision::only(Heard::reset(s)),
     }
 }
 
@@ -191,9 +188,9 @@ fn close(s: Session) -> Heard
     ensures { heard_at s result ≡ closed_of s }
 {
     if s.down.left != 0 {
-        return answers::faulted(s, Status::NOT_DONE);
+        return Heard::faulted(s, Status::NOT_DONE);
     }
-    answers::taken(answers::manifest(s))
+    Heard::taken(answers::manifest(s))
 }
 
 fn piece(s: Session, n: usize) -> Decision
@@ -202,7 +199,7 @@ fn piece(s: Session, n: usize) -> Decision
     ensures { planned s result ≡ piece_of s n }
 {
     if n == 0 {
-        return jobs::only(close(s));
+        return Decision::only(close(s));
     }
     let left = s.down.left;
     if (left as usize) < n {

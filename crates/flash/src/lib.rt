@@ -23,12 +23,12 @@ const ALL_ERASED: u64 = 0xFFFF_FFFF_FFFF_FFFF;
 
 // A block's number, counted from the start of flash.
 #[repr(C)]
-#[derive(Clone, Copy)]
+#[derive(Clone, Copy, PartialEq, Eq, Debug, Default)]
 pub struct Block(pub u32);
 
 // A byte's address, counted from the start of flash.
 #[repr(C)]
-#[derive(Clone, Copy)]
+#[derive(Clone, Copy, PartialEq, Eq, Debug, Default)]
 pub struct Addr(pub u32);
 
 // The number that says that a search found no address. No flash has a byte there: its length would not be a 32-bit number.

@@ -31,34 +31,8 @@ pub struct Decision {
     pub job: Job,
 }
 
-// What leaves flash alone.
-pub fn only(h: Heard) -> Decision
-    ensures { result ≡ decision_of h Job.Nothing }
-{
-    Decision {
-        heard: h,
-        job: Job::Nothing,
-    }
-}
-
-// Does a job. The one function above `flash` that is lent flash to be changed.
-pub fn carry_out(job: Job, flash: &mut [u8], d: &[u8])
-    requires { Reaches job flash.old d.now }
-    ensures { flash.new ≡ carried flash.old (stores_for job d.now) }
-{
-    match job {
-        Job::Nothing => {}
-        Job::Bytes { at, skip } => {
-            let from = skip as usize;
-            flash::program(flash, at, &d[from..]);
-        }
-        Job::Wipe { first, count } => {
-            flash::erase(flash, first, count);
-        }
-    }
-}
-
 // The sums after n bytes were stored from `at` on. Where no byte was, all stay as kept, the whole too.
+#[tactic(auto, unfolding(crate::specs::Job::sums_after))]
 fn sums_after(board: Board, kept: Sums, flash: &[u8], at: Addr, n: u32) -> Sums
     requires split { Split flash.now board.a.0 (app_end board) }
     requires place { Place board at.0 n }
@@ -68,61 +42,77 @@ fn sums_after(board: Board, kept: Sums, flash: &[u8], at: Addr, n: u32) -> Sums
         return kept;
     }
     let last = Addr(at.0 + (n - 1));
-    let block = last.holder();
-    sums::refresh(
-        kept,
-        flash,
-        board.a,
-        session::app_end(board),
-        at.holder(),
-        Block(block.0 + 1),
-    )
+    let stop = Block(last.holder().0 + 1);
+    sums::refresh(kept, flash, board.a, board.app_end(), at.holder(), stop)
 }
 
-// The sums once a job is done: of the blocks that it touched anew.
-fn sums_done(job: Job, board: Board, kept: Sums, flash: &[u8], d: &[u8]) -> Sums
-    requires { Can job board flash.now d.now }
-    ensures { result ≡ sums_done job board kept flash.now d.now }
-{
-    match job {
-        Job::Nothing => kept,
-        Job::Bytes { at, skip } => {
-            let n = (d.len() - skip as usize) as u32;
-            sums_after(board, kept, flash, at, n)
+impl Job {
+    // Does the job. The one function above `flash` that is lent flash to be changed.
+    #[tactic(auto, using(crate::proofs::Laws::stores_made, crate::proofs::Laws::to_the_end), unfolding(crate::specs::Job::stores_for, flash::specs::Flash::carried))]
+    pub fn carry_out(self, flash: &mut [u8], d: &[u8])
+        requires { Reaches self flash.old d.now }
+        ensures { flash.new ≡ carried flash.old (stores_for self d.now) }
+    {
+        match self {
+            Job::Nothing => {}
+            Job::Bytes { at, skip } => flash::program(flash, at, &d[skip as usize..]),
+            Job::Wipe { first, count } => flash::erase(flash, first, count),
         }
-        Job::Wipe { first, count } => {
-            let stop = Block(first.0 + count);
-            let end = session::app_end(board);
-            sums::refresh(kept, flash, board.a, end, first, stop)
+    }
+
+    // The sums once the job is done: of the blocks that it touched anew.
+    #[tactic(auto, unfolding(crate::specs::Job::sums_wiped))]
+    fn sums_done(self, board: Board, kept: Sums, flash: &[u8], d: &[u8]) -> Sums
+        requires { Can self board flash.now d.now }
+        ensures { result ≡ sums_done self board kept flash.now d.now }
+    {
+        match self {
+            Job::Nothing => kept,
+            Job::Bytes { at, skip } => {
+                let n = (d.len() - skip as usize) as u32;
+                sums_after(board, kept, flash, at, n)
+            }
+            Job::Wipe { first, count } => {
+                let stop = Block(first.0 + count);
+                sums::refresh(kept, flash, board.a, board.app_end(), first, stop)
+            }
         }
     }
 }
 
-// What a call comes to once its job is done: the one place where a session is put together from what was decided. It is apart from
-// `carry_out`, so that the session's copy is not made before flash has changed: the compiler would keep both.
-pub fn finished(s: Session, x: Decision, flash: &[u8], d: &[u8]) -> Outcome
-    requires { Can x.job s.board flash.now d.now }
-    ensures { result ≡ summed (heard_at s x.heard) (sums_done x.job s.board s.sums flash.now d.now) }
-{
-    let job = x.job;
-    let sums = sums_done(job, s.board, s.sums, flash, d);
-    let heard = x.heard;
-    let answer = heard.answer;
-    let talk = heard.talk;
-    let board = s.board;
-    let phase = talk.phase;
-    let down = talk.down;
-    let up = talk.up;
-    Outcome {
-        answer: answer,
-        count: heard.count,
-        session: Session {
-            board: board,
-            phase: phase,
-            down: down,
-            up: up,
-            unerased: talk.unerased,
-            sums: sums,
-        },
+impl Decision {
+    // What leaves flash alone.
+    pub fn only(heard: Heard) -> Decision
+        ensures { result ≡ decision_of heard Job.Nothing }
+    {
+        Decision {
+            heard,
+            job: Job::Nothing,
+        }
+    }
+
+    // What a call comes to once its job is done: the one place where a session is put together from what was decided. It is apart from
+    // `carry_out`, so that the session's copy is not made before flash has changed: the compiler would keep both.
+    pub fn finished(self, s: Session, flash: &[u8], d: &[u8]) -> Outcome
+        requires { Can self.job s.board flash.now d.now }
+        ensures { result ≡ summed (heard_at s self.heard) (sums_done self.job s.board s.sums flash.now d.now) }
+    {
+        let Heard {
+            answer,
+            count,
+            talk,
+        } = self.heard;
+        Outcome {
+            answer,
+            count,
+            session: Session {
+                board: s.board,
+                phase: talk.phase,
+                down: talk.down,
+                up: talk.up,
+                unerased: talk.unerased,
+                sums: self.job.sums_done(s.board, s.sums, flash, d),
+            },
+        }
     }
 }

@@ -7,7 +7,7 @@ ghost use Rattle.answers.specs.Answers.{leaves, told};
 ghost use Rattle.jobs.specs.Job.{planned};
 ghost use Rattle.loader.specs.Step.{startable, start_outcome, ready, decided, served, decided_of, step_of, Served};
 
-use answers::{Answer, Outcome};
+use answers::{Answer, Heard, Outcome};
 use flash::Block;
 use jobs::Decision;
 use request::{Request, Setup};
@@ -31,16 +31,11 @@ pub fn start(flash: &[u8], a: Block, b: Block, part0: u32, part1: u32) -> Outcom
         return Outcome {
             answer: Answer::Unfit,
             count: 0,
-            session: session::zeros(),
+            session: Session::zeros(),
         };
     }
-    let board = Board {
-        a: a,
-        b: b,
-        part0: part0,
-        part1: part1,
-    };
-    let sums = sums::fresh(flash, a, session::app_end(board));
+    let board = Board { a, b, part0, part1 };
+    let sums = sums::fresh(flash, a, board.app_end());
     Outcome {
         answer: Answer::Taken,
         count: 0,
@@ -64,7 +59,7 @@ fn prepared(
     let ready = (1024 <= reply_len)
         & s.board.b.ends(flash_len)
         & (data_len == parts.data_asked() as usize)
-        & session::fit(s);
+        & s.is_fit();
     ready.then_some(parts)
 }
 
@@ -75,12 +70,12 @@ fn serve(r: Request, s: Session, flash: &[u8], asked: u32, d: &[u8], reply: &mut
 {
     match r {
         Request::Dnload => command::dnload(s, flash, d),
-        Request::Upload => jobs::only(upload::upload(s, flash, asked, reply)),
-        Request::GetStatus => jobs::only(reply::getstatus(s, reply)),
-        Request::ClrStatus => jobs::only(answers::taken(answers::idle(s))),
-        Request::GetState => jobs::only(reply::getstate(s, reply)),
-        Request::Abort => jobs::only(answers::taken(answers::idle(s))),
-        Request::Query => jobs::only(reply::query(s, reply)),
+        Request::Upload => Decision::only(upload::upload(s, flash, asked, reply)),
+        Request::GetStatus => Decision::only(reply::getstatus(s, reply)),
+        Request::ClrStatus => Decision::only(Heard::taken(answers::idle(s))),
+        Request::GetState => Decision::only(reply::getstate(s, reply)),
+        Request::Abort => Decision::only(Heard::taken(answers::idle(s))),
+        Request::Query => Decision::only(reply::query(s, reply)),
     }
 }
 
@@ -90,14 +85,14 @@ fn decide(s: Session, flash: &[u8], setup: &[u8], d: &[u8], reply: &mut [u8]) ->
         ≡ decided_of s flash.now setup.now d.now reply.old }
 {
     let Some(setup) = prepared(s, flash.len(), setup, d.len(), reply.len()) else {
-        return jobs::only(answers::unfit(s));
+        return Decision::only(Heard::unfit(s));
     };
     let Some(request) = setup.request() else {
-        return jobs::only(answers::stalled(s));
+        return Decision::only(Heard::stalled(s));
     };
     let asked = setup.length as u32;
     if !request.allowed(asked, s.phase.state) {
-        return jobs::only(answers::stalled(s));
+        return Decision::only(Heard::stalled(s));
     }
     serve(request, s, flash, asked, d, reply)
 }
@@ -107,8 +102,7 @@ pub fn step(s: Session, flash: &mut [u8], setup: &[u8], d: &[u8], reply: &mut [u
     ensures { leaves result flash.new reply.new
         ≡ step_of s flash.old setup.now d.now reply.old }
 {
-    let x = decide(s, flash, setup, d, reply);
-    let job = x.job;
-    jobs::carry_out(job, flash, d);
-    jobs::finished(s, x, flash, d)
+    let decision = decide(s, flash, setup, d, reply);
+    decision.job.carry_out(flash, d);
+    decision.finished(s, flash, d)
 }

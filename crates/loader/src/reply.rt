@@ -19,7 +19,7 @@ fn answer(talk: Talk, bytes: &[u8], reply: &mut [u8]) -> Heard
     Heard {
         answer: Answer::Taken,
         count: n as u32,
-        talk: talk,
+        talk,
     }
 }
 
@@ -28,7 +28,7 @@ fn stays(s: Session, bytes: &[u8], reply: &mut [u8]) -> Heard
     requires { (length bytes.now ≤ length reply.old) × (length bytes.now ≤ 1024) }
     ensures { replied (heard_at s result) reply.new ≡ answered s bytes.now reply.old }
 {
-    answer(session::talk_of(s), bytes, reply)
+    answer(s.talk(), bytes, reply)
 }
 
 // The state that a poll enters.
@@ -47,10 +47,14 @@ fn entered(phase: Phase) -> State
 fn poll(s: Session) -> Talk
     ensures { with_talk s result ≡ polled s }
 {
-    let mut t = session::talk_of(s);
-    t.phase.state = entered(s.phase);
-    t.phase.after = State::IDLE;
-    t
+    Talk {
+        phase: Phase {
+            state: entered(s.phase),
+            status: s.phase.status,
+            after: State::IDLE,
+        },
+        ..s.talk()
+    }
 }
 
 // How long the host is to wait before it polls again.

@@ -6,7 +6,7 @@ ghost use Rattle.command.specs.Ready.{Ready};
 ghost use Rattle.loader.specs.Upload.{place_of, upload_ends, uploading_at, uploaded_of, upload_of};
 
 use answers::{Answer, Heard};
-use session::{Session, State, Talk};
+use session::{Download, Phase, Session, State, Talk, Upload};
 
 // Where the answer starts: an upload begun in state idle starts at the stream's first byte.
 #[tactic(auto, unfolding(crate::specs::Upload::place_of))]
@@ -14,9 +14,10 @@ fn place(s: Session) -> u32
     ensures { result ≡ place_of s }
 {
     if s.phase.state == State::UPLOAD_IDLE {
-        return s.up.place;
+        s.up.place
+    } else {
+        0
     }
-    0
 }
 
 // Whether the upload ends with this answer.
@@ -27,13 +28,19 @@ fn ends(asked: u32, given: u32) -> bool
     asked < 1024
 }
 
+#[tactic(auto, unfolding(crate::specs::Upload::uploading_at))]
 fn uploading(s: Session, place: u32) -> Talk
     ensures { with_talk s result ≡ uploading_at s place }
 {
-    let mut t = answers::idle(s);
-    t.phase.state = State::UPLOAD_IDLE;
-    t.up.place = place;
-    t
+    Talk {
+        phase: Phase {
+            state: State::UPLOAD_IDLE,
+            ..Phase::IDLE
+        },
+        down: Download::NONE,
+        up: Upload { place, ..s.up },
+        ..s.talk()
+    }
 }
 
 // The talk after `given` bytes from place `from` on were answered.
@@ -43,9 +50,10 @@ fn uploaded(s: Session, asked: u32, from: u32, given: u32) -> Talk
     ensures { with_talk s result ≡ uploaded_of s asked given }
 {
     if ends(asked, given) {
-        return answers::idle(s);
+        answers::idle(s)
+    } else {
+        uploading(s, from + given)
     }
-    uploading(s, from + given)
 }
 
 pub fn upload(s: Session, flash: &[u8], asked: u32, reply: &mut [u8]) -> Heard

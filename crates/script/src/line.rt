@@ -35,14 +35,14 @@ fn sum_of_sums(block: &[u32; MOST]) -> u32
     sum
 }
 
+#[tactic(auto, unfolding(crate::specs::Turn::line_of))]
 pub fn line_of(outcome: Outcome, reply: &[u8], flash: &[u8]) -> Line
     ensures { result ≡ line_of (leaves outcome flash.now reply.now) }
 {
-    let answer = outcome.answer;
     let sums = outcome.session.sums;
     let block = sums.block;
     Line {
-        answer: answers::number(answer),
+        answer: u32::from(outcome.answer),
         count: outcome.count,
         state: outcome.session.phase.state.0,
         status: outcome.session.phase.status.0,
@@ -75,8 +75,7 @@ pub fn show(rt: &impl Print, line: Line) -> io::Result<()> {
 }
 
 pub fn show_start(rt: &impl Print, begun: Outcome) -> io::Result<()> {
-    let answer = begun.answer;
     rt.write_all(b"start ")?;
-    show_decimal(rt, answers::number(answer))?;
+    show_decimal(rt, u32::from(begun.answer))?;
     show_hex(rt, begun.session.sums.whole, b"\n")
 }

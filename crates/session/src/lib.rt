@@ -3,7 +3,7 @@
 #![tactic(auto)]
 
 ghost use Rattle.std.specs.Prelude.{◌≡◌, true};
-ghost use Rattle.session.specs.Codes.{column_of};
+ghost use Rattle.session.specs.Codes.{column_of, error_status};
 ghost use Rattle.session.specs.Session.{allowed_split, board_of, app_end, stream_length, talk_of, fresh_talk, fresh_of, zeros_of};
 ghost use Rattle.session.specs.Rules.{state_rule, status_rule, running, download_rule, upload_rule};
 ghost use Rattle.session.specs.Rules.{after_rule, in_application, range_rule, place_rule, flags_rule, fit_of};
@@ -17,7 +17,7 @@ const PREFIX_LENGTH: u64 = 8;
 const INFO_LENGTH: u64 = 24;
 
 #[repr(C)]
-#[derive(Clone, Copy, PartialEq, Eq, Debug)]
+#[derive(Clone, Copy, PartialEq, Eq, Debug, Default)]
 pub struct State(pub u8);
 
 impl State {
@@ -53,7 +53,7 @@ impl State {
 }
 
 #[repr(C)]
-#[derive(Clone, Copy, PartialEq, Eq, Debug)]
+#[derive(Clone, Copy, PartialEq, Eq, Debug, Default)]
 pub struct Status(pub u8);
 
 impl Status {
@@ -68,11 +68,25 @@ impl Status {
     pub const VENDOR: Status = Status(0x0B);
 
     pub const STALLED: Status = Status(0x0F);
+
+    // A status of state error.
+    fn is_error(self) -> bool
+        ensures { result ≡ error_status self.0 }
+    {
+        matches!(
+            self,
+            Status::CHECK_ERASED
+                | Status::ADDRESS
+                | Status::NOT_DONE
+                | Status::VENDOR
+                | Status::STALLED
+        )
+    }
 }
 
 // What a start was told: A, B and the part numbers.
 #[repr(C)]
-#[derive(Clone, Copy)]
+#[derive(Clone, Copy, PartialEq, Eq, Debug, Default)]
 pub struct Board {
     pub a: Block,
     pub b: Block,
@@ -82,7 +96,7 @@ pub struct Board {
 
 // The state, its status, and the state after sync.
 #[repr(C)]
-#[derive(Clone, Copy)]
+#[derive(Clone, Copy, PartialEq, Eq, Debug, Default)]
 pub struct Phase {
     pub state: State,
     pub status: Status,
@@ -91,15 +105,23 @@ pub struct Phase {
 
 // Where a running download's next byte goes, and how many bytes remain.
 #[repr(C)]
-#[derive(Clone, Copy)]
+#[derive(Clone, Copy, PartialEq, Eq, Debug, Default)]
 pub struct Download {
     pub place: Addr,
     pub left: u32,
 }
 
+impl Download {
+    // The download fields while none runs.
+    pub const NONE: Download = Download {
+        place: Addr(0),
+        left: 0,
+    };
+}
+
 // What an upload reads. Flags are numbers, since a lent byte may hold anything.
 #[repr(C)]
-#[derive(Clone, Copy)]
+#[derive(Clone, Copy, PartialEq, Eq, Debug, Default)]
 pub struct Upload {
     // Which stream: one of the two below.
     pub choice: u8,
@@ -116,6 +138,26 @@ impl Upload {
     pub const FLASH_STREAM: u8 = 0;
 
     pub const INFO_BYTES: u8 = 1;
+
+    // The bytes of the chosen stream; 64 bits hold the sum at any length.
+    #[tactic(auto, unfolding(crate::specs::Session::stream_length))]
+    fn stream_length(self) -> u64
+        ensures { result ≡ stream_length self }
+    {
+        if self.choice == Upload::INFO_BYTES {
+            INFO_LENGTH
+        } else if self.prefix == 1 {
+            PREFIX_LENGTH + self.len as u64
+        } else {
+            self.len as u64
+        }
+    }
+
+    fn flags_rule(self) -> bool
+        ensures { result ≡ flags_rule self }
+    {
+        (self.choice <= 1) & (self.prefix <= 1)
+    }
 }
 
 // Where the talk with the host stands: all of a session that a decision changes. What is decided hands on this and no session, since the
@@ -147,218 +189,170 @@ pub fn allowed_split(a: Block, b: Block) -> bool
     (1 <= a.0) & (a.0 < b.0) & (b.0 as usize <= MOST)
 }
 
-// The block after the application's last.
-pub fn app_end(board: Board) -> Block
-    ensures { result.0 ≡ app_end board }
-{
-    Block(board.b.0)
+impl Board {
+    // The block after the application's last.
+    #[tactic(auto, unfolding(crate::specs::Session::app_end))]
+    pub fn app_end(self) -> Block
+        ensures { result.0 ≡ app_end self }
+    {
+        self.b
+    }
+
+    // The talk after a fresh start or RESET.
+    #[tactic(auto, using(crate::proofs::Laws::split_facts), unfolding(crate::specs::Session::app_end, crate::specs::Session::whole_upload))]
+    pub fn fresh_talk(self) -> Talk
+        requires { allowed_split self.a.0 self.b.0 ≡ true }
+        ensures { result ≡ fresh_talk self }
+    {
+        let len = self.app_end().start().0 - self.a.start().0;
+        Talk {
+            phase: Phase::IDLE,
+            down: Download::NONE,
+            up: Upload {
+                choice: Upload::FLASH_STREAM,
+                prefix: 1,
+                first: self.a,
+                len,
+                place: 0,
+            },
+            unerased: flash::NOWHERE,
+        }
+    }
+
+    // Whether `len` bytes from block `first` on are some and lie in the application. A broken session's blocks may be any.
+    pub fn in_application(self, first: Block, len: u32) -> bool
+        ensures { result ≡ in_application self first.0 len }
+    {
+        let Some(at) = first.address() else {
+            return false;
+        };
+        (0 < len) & at.lies_in(len, self.a, self.app_end())
+    }
+
+    fn range_rule(self, up: Upload) -> bool
+        ensures { result ≡ range_rule self up }
+    {
+        self.in_application(up.first, up.len)
+    }
+
+    fn place_rule(self, phase: Phase, down: Download) -> bool
+        ensures { result ≡ place_rule self phase down }
+    {
+        !phase.runs() | down.place.lies_in(down.left, self.a, self.app_end())
+    }
 }
 
-// The bytes of the chosen stream; 64 bits hold the sum at any length.
-fn stream_length(up: Upload) -> u64
-    ensures { result ≡ stream_length up }
-{
-    if up.choice == Upload::INFO_BYTES {
-        return INFO_LENGTH;
-    }
-    if up.prefix == 1 {
-        PREFIX_LENGTH + (up.len as u64)
-    } else {
-        up.len as u64
-    }
-}
+impl Phase {
+    pub const IDLE: Phase = Phase {
+        state: State::IDLE,
+        status: Status::OK,
+        after: State::IDLE,
+    };
 
-// The talk as a session has it.
-pub fn talk_of(s: Session) -> Talk
-    ensures { result ≡ talk_of s }
-{
-    let phase = s.phase;
-    let down = s.down;
-    let up = s.up;
-    Talk {
-        phase: phase,
-        down: down,
-        up: up,
-        unerased: s.unerased,
+    fn state_rule(self) -> bool
+        ensures { result ≡ state_rule self }
+    {
+        self.state.column() < State::COUNT
     }
-}
 
-// The talk after a fresh start or RESET.
-pub fn fresh_talk(board: Board) -> Talk
-    requires { allowed_split board.a.0 board.b.0 ≡ true }
-    ensures { result ≡ fresh_talk board }
-{
-    let first = board.a;
-    let end = app_end(board);
-    let len = end.start().0 - first.start().0;
-    Talk {
-        phase: Phase {
-            state: State::IDLE,
-            status: Status::OK,
-            after: State::IDLE,
-        },
-        down: Download {
-            place: Addr(0),
-            left: 0,
-        },
-        up: Upload {
-            choice: Upload::FLASH_STREAM,
-            prefix: 1,
-            first: first,
-            len: len,
-            place: 0,
-        },
-        unerased: flash::NOWHERE,
+    fn status_rule(self) -> bool
+        ensures { result ≡ status_rule self }
+    {
+        let error = self.state == State::ERROR;
+        (error | (self.status == Status::OK)) & (!error | self.status.is_error())
+    }
+
+    // Whether a download runs: its fields mean something.
+    fn runs(self) -> bool
+        ensures { result ≡ running self }
+    {
+        (self.state == State::DOWNLOAD_IDLE)
+            | ((self.state == State::DOWNLOAD_SYNC) & (self.after == State::DOWNLOAD_IDLE))
+    }
+
+    fn after_rule(self) -> bool
+        ensures { result ≡ after_rule self }
+    {
+        (self.after == State::IDLE)
+            | ((self.state == State::DOWNLOAD_SYNC) & (self.after == State::DOWNLOAD_IDLE))
+    }
+
+    fn download_rule(self, down: Download) -> bool
+        ensures { result ≡ download_rule self down }
+    {
+        self.runs() | ((down.place.0 == 0) & (down.left == 0))
+    }
+
+    fn upload_rule(self, up: Upload) -> bool
+        ensures { result ≡ upload_rule self up }
+    {
+        ((self.state == State::UPLOAD_IDLE) | (up.place == 0))
+            & ((up.place as u64) <= up.stream_length())
     }
 }
 
 impl Session {
     // The session after a fresh start.
+    #[tactic(auto, unfolding(crate::specs::Session::fresh_of))]
     pub fn fresh(a: Block, b: Block, part0: u32, part1: u32, sums: Sums) -> Session
         requires { allowed_split a.0 b.0 ≡ true }
         ensures { result ≡ fresh_of (board_of a.0 b.0 part0 part1) sums }
     {
-        let board = Board {
-            a: a,
-            b: b,
-            part0: part0,
-            part1: part1,
-        };
-        let talk = fresh_talk(board);
-        let phase = talk.phase;
-        let down = talk.down;
-        let up = talk.up;
+        let board = Board { a, b, part0, part1 };
+        let talk = board.fresh_talk();
         Session {
-            board: board,
-            phase: phase,
-            down: down,
-            up: up,
+            board,
+            phase: talk.phase,
+            down: talk.down,
+            up: talk.up,
             unerased: talk.unerased,
-            sums: sums,
+            sums,
         }
     }
-}
 
-// The session that a refused start hands back: every call finds it unfit.
-pub fn zeros() -> Session
-    ensures { result ≡ zeros_of }
-{
-    Session {
-        board: Board {
-            a: Block(0),
-            b: Block(0),
-            part0: 0,
-            part1: 0,
-        },
-        phase: Phase {
-            state: State(0),
-            status: Status(0),
-            after: State(0),
-        },
-        down: Download {
-            place: Addr(0),
-            left: 0,
-        },
-        up: Upload {
-            choice: 0,
-            prefix: 0,
-            first: Block(0),
-            len: 0,
-            place: 0,
-        },
-        unerased: 0,
-        sums: Sums {
-            block: [0; MOST],
-            whole: 0,
-        },
+    // The session that a refused start hands back: every call finds it unfit.
+    #[tactic(auto, unfolding(crate::specs::Session::zeros_of))]
+    pub fn zeros() -> Session
+        ensures { result ≡ zeros_of }
+    {
+        Session {
+            board: Board::default(),
+            phase: Phase::default(),
+            down: Download::default(),
+            up: Upload::default(),
+            unerased: 0,
+            sums: Sums {
+                block: [0; MOST],
+                whole: 0,
+            },
+        }
     }
-}
 
-fn state_rule(phase: Phase) -> bool
-    ensures { result ≡ state_rule phase }
-{
-    phase.state.column() < State::COUNT
-}
+    // The talk as the session has it.
+    pub fn talk(&self) -> Talk
+        ensures { result ≡ talk_of self.now }
+    {
+        Talk {
+            phase: self.phase,
+            down: self.down,
+            up: self.up,
+            unerased: self.unerased,
+        }
+    }
 
-fn status_rule(phase: Phase) -> bool
-    ensures { result ≡ status_rule phase }
-{
-    let error = phase.state == State::ERROR;
-    let known = (phase.status == Status::CHECK_ERASED)
-        | (phase.status == Status::ADDRESS)
-        | (phase.status == Status::NOT_DONE)
-        | (phase.status == Status::VENDOR)
-        | (phase.status == Status::STALLED);
-    (error | (phase.status == Status::OK)) & (!error | known)
-}
-
-// Whether a download runs: its fields mean something.
-fn runs(phase: Phase) -> bool
-    ensures { result ≡ running phase }
-{
-    (phase.state == State::DOWNLOAD_IDLE)
-        | ((phase.state == State::DOWNLOAD_SYNC) & (phase.after == State::DOWNLOAD_IDLE))
-}
-
-fn download_rule(phase: Phase, down: Download) -> bool
-    ensures { result ≡ download_rule phase down }
-{
-    runs(phase) | ((down.place.0 == 0) & (down.left == 0))
-}
-
-fn upload_rule(phase: Phase, up: Upload) -> bool
-    ensures { result ≡ upload_rule phase up }
-{
-    ((phase.state == State::UPLOAD_IDLE) | (up.place == 0))
-        & ((up.place as u64) <= stream_length(up))
-}
-
-fn after_rule(phase: Phase) -> bool
-    ensures { result ≡ after_rule phase }
-{
-    (phase.after == State::IDLE)
-        | ((phase.state == State::DOWNLOAD_SYNC) & (phase.after == State::DOWNLOAD_IDLE))
-}
-
-// Whether `len` bytes from block `first` on are some and lie in the application. A broken session's blocks may be any.
-pub fn in_application(board: Board, first: Block, len: u32) -> bool
-    ensures { result ≡ in_application board first.0 len }
-{
-    let Some(at) = first.address() else {
-        return false;
-    };
-    (0 < len) & at.lies_in(len, board.a, app_end(board))
-}
-
-fn range_rule(board: Board, up: Upload) -> bool
-    ensures { result ≡ range_rule board up }
-{
-    in_application(board, up.first, up.len)
-}
-
-fn place_rule(board: Board, phase: Phase, down: Download) -> bool
-    ensures { result ≡ place_rule board phase down }
-{
-    !runs(phase) | down.place.lies_in(down.left, board.a, app_end(board))
-}
-
-fn flags_rule(up: Upload) -> bool
-    ensures { result ≡ flags_rule up }
-{
-    (up.choice <= 1) & (up.prefix <= 1)
-}
-
-// Whether the session keeps all of its rules.
-pub fn fit(s: Session) -> bool
-    ensures { result ≡ fit_of s }
-{
-    allowed_split(s.board.a, s.board.b)
-        & state_rule(s.phase)
-        & status_rule(s.phase)
-        & download_rule(s.phase, s.down)
-        & upload_rule(s.phase, s.up)
-        & after_rule(s.phase)
-        & range_rule(s.board, s.up)
-        & place_rule(s.board, s.phase, s.down)
-        & flags_rule(s.up)
+    // Whether the session keeps all of its rules.
+    #[tactic(auto, unfolding(crate::specs::Rules::fit_of))]
+    pub fn is_fit(&self) -> bool
+        ensures { result ≡ fit_of self.now }
+    {
+        allowed_split(self.board.a, self.board.b)
+            & self.phase.state_rule()
+            & self.phase.status_rule()
+            & self.phase.download_rule(self.down)
+            & self.phase.upload_rule(self.up)
+            & self.phase.after_rule()
+            & self.board.range_rule(self.up)
+            & self.board.place_rule(self.phase, self.down)
+            & self.up.flags_rule()
+    }
 }

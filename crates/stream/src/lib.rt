@@ -1,7 +1,7 @@
 // The bytes that an upload reads: the info bytes, or a PROG header for the read range and then the range.
 #![tactic(auto)]
 
-ghost use Rattle.std.specs.Prelude.{◌+◌, ◌^◌, ◌≤◌, ◌<◌, min, ◌≡◌, ◌++◌, length, get_or, take, drop};
+ghost use Rattle.std.specs.Prelude.{◌+◌, ◌^◌, ◌≤◌, ◌<◌, ◌≡◌, ◌++◌, length, take, drop};
 ghost use Rattle.flash.specs.Flash.{start_of, Within, range};
 ghost use Rattle.session.specs.Session.{app_end, info_length, prefix_length};
 ghost use Rattle.stream.specs.Stream.{header_of, info_stream, range_stream, next_of, Sendable, Sent};
@@ -19,7 +19,7 @@ fn info(board: Board, unerased: u32) -> [u8; 24]
     let blocks = numbers::low::<2>(board.b.0);
     let part0 = numbers::low::<4>(board.part0);
     let part1 = numbers::low::<4>(board.part1);
-    let end = numbers::low::<4>(session::app_end(board).start().0);
+    let end = numbers::low::<4>(board.app_end().start().0);
     let begin = numbers::low::<4>(board.a.start().0);
     let found = numbers::low::<4>(unerased);
     [
@@ -47,54 +47,34 @@ fn header(up: Upload) -> [u8; 8]
     ]
 }
 
-fn lesser(a: usize, b: usize) -> usize
-    ensures { result ≡ min a b }
+// As many of the bytes as there is room for to the front of the reply, and how many they were. A loop, since the library's own copy of a slice
+// would want memmove of whoever links the calls.
+fn put(bytes: &[u8], reply: &mut [u8]) -> usize
+    ensures { Sent result reply.old reply.new (take (length reply.old) bytes.now) }
 {
-    if a <= b { a } else { b }
-}
-
-// Byte k of two parts read as one.
-fn byte_at(head: &[u8], body: &[u8], k: usize) -> u8
-    requires { k < length head.now + length body.now }
-    ensures { result ≡ get_or (head.now ++ body.now) k 0 }
-{
-    if k < head.len() {
-        head[k]
-    } else {
-        body[k - head.len()]
+    let n = bytes.len().min(reply.len());
+    for (i, &byte) in bytes[..n].iter().enumerate() {
+        reply[i] = byte;
     }
+    n
 }
 
-// The next bytes of two parts read as one, from `place` on: what was asked for, or what is left.
-fn give(head: &[u8], body: &[u8], place: u32, asked: u32, reply: &mut [u8]) -> u32
-    requires body_len_bound { length head.now + length body.now < 2 ^ 32 }
-    requires place_in_bounds { (place ≤ length head.now + length body.now) × (asked ≤ length reply.old) }
-    ensures { Sent result reply.old reply.new (take asked (drop place (head.now ++ body.now))) }
+// The bytes of two parts read as one, from byte `from` on, as many as there is room for.
+#[tactic(auto, using(crate::proofs::Giving::sent_both, crate::proofs::Giving::drop_both, crate::proofs::Giving::drop_min))]
+fn put_both(head: &[u8], body: &[u8], from: usize, reply: &mut [u8]) -> usize
+    ensures { Sent result reply.old reply.new (take (length reply.old) (drop from (head.now ++ body.now))) }
 {
-    let from = place as usize;
-    let left = head.len() + body.len() - from;
-    let n = lesser(asked as usize, left);
-    for i in 0..n {
-        reply[i] = byte_at(head, body, from + i);
-    }
-    n as u32
+    let behind = from.saturating_sub(head.len());
+    let n = put(&head[from.min(head.len())..], reply);
+    n + put(&body[behind.min(body.len())..], &mut reply[n..])
 }
 
-// The info bytes have no second part.
-fn send_info(
-    board: Board,
-    unerased: u32,
-    flash: &[u8],
-    place: u32,
-    asked: u32,
-    reply: &mut [u8],
-) -> u32
+fn send_info(board: Board, unerased: u32, from: usize, reply: &mut [u8]) -> usize
     requires board_bound { (start_of (app_end board) < 2 ^ 32) × (start_of board.a.0 < 2 ^ 32) }
-    requires place_le_info_length { (place ≤ info_length) × (asked ≤ length reply.old) }
-    ensures { Sent result reply.old reply.new (take asked (drop place (info_stream board unerased))) }
+    requires from_le_info_length { from ≤ info_length }
+    ensures { Sent result reply.old reply.new (take (length reply.old) (drop from (info_stream board unerased))) }
 {
-    let bytes = info(board, unerased);
-    give(&bytes, &flash[0..0], place, asked, reply)
+    put(&info(board, unerased)[from..], reply)
 }
 
 fn read_range(up: Upload, flash: &[u8]) -> &[u8]
@@ -102,22 +82,20 @@ fn read_range(up: Upload, flash: &[u8]) -> &[u8]
     ensures { result.now ≡ range flash.now (start_of up.first.0) up.len }
 {
     let from = up.first.start().0 as usize;
-    let to = from + up.len as usize;
-    &flash[from..to]
+    &flash[from..from + up.len as usize]
 }
 
 // The range, after its header if the prefix is on.
-fn send_range(up: Upload, flash: &[u8], place: u32, asked: u32, reply: &mut [u8]) -> u32
+fn send_range(up: Upload, flash: &[u8], from: usize, reply: &mut [u8]) -> usize
     requires within { Within flash.now (start_of up.first.0) up.len }
-    requires len_bound { (prefix_length up + up.len < 2 ^ 32) × (place ≤ prefix_length up + up.len) × (asked ≤ length reply.old) }
-    ensures { Sent result reply.old reply.new (take asked (drop place (range_stream up flash.now))) }
+    requires from_le_length { from ≤ prefix_length up + up.len }
+    ensures { Sent result reply.old reply.new (take (length reply.old) (drop from (range_stream up flash.now))) }
 {
     let body = read_range(up, flash);
     if up.prefix == 1 {
-        let head = header(up);
-        give(&head, body, place, asked, reply)
+        put_both(&header(up), body, from, reply)
     } else {
-        give(&flash[0..0], body, place, asked, reply)
+        put(&body[from..], reply)
     }
 }
 
@@ -134,9 +112,11 @@ pub fn send(
     requires { Sendable board up flash.now place asked (length reply.old) }
     ensures { Sent result reply.old reply.new (next_of board unerased up flash.now place asked) }
 {
+    let from = place as usize;
+    let room = &mut reply[..asked as usize];
     if up.choice == Upload::INFO_BYTES {
-        send_info(board, unerased, flash, place, asked, reply)
+        send_info(board, unerased, from, room) as u32
     } else {
-        send_range(up, flash, place, asked, reply)
+        send_range(up, flash, from, room) as u32
     }
 }

@@ -21,4 +21,4 @@ returns c =
     let told = c.in_application.ensures ∙ ap (in_application c.args.s.board c.args.block.0) c.start-size.ensures in
     yes_is _ _ _ _ (passed _ _ told (ap not c.if-not-in_application.false))
     (ap (λ (o : Outcome). plan_of o (wipe_of c.args.block.0 c.args.count))
-    (taken_at c.args.s _ _ _ c.taken-h.ensures c.sync.ensures))
+    (taken_at c.args.s _ _ _ c.taken.ensures c.sync.ensures))

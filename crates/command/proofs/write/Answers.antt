@@ -10,4 +10,4 @@ pub returns : goal.returns
 unfolding wrote_of
 returns c =
     ap (λ (o : Outcome). plan_of o (bytes_to c.args.at.0 c.args.skip))
-    (taken_at c.args.s _ _ _ c.taken-h.ensures c.moved.ensures)
+    (taken_at c.args.s _ _ _ c.taken.ensures c.moved.ensures)

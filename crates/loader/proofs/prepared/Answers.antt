@@ -14,5 +14,5 @@ returns-clause-ready c =
     let a = c.args in
     let read = c.in_ok-parts.ensures in
     then_some-IsSome _ _ _ _ c.then_some.ensures
-    (rw (eq-eqb _ _ (read.eight.0 refl), c.ends.ensures, c.data_asked.ensures, c.fit.ensures, read.parts)
+    (rw (eq-eqb _ _ (read.eight.0 refl), c.ends.ensures, c.data_asked.ensures, c.is_fit.ensures, read.parts)
     (same_before (leb 1024 a.reply_len) (eqb a.data_len (data_asked a.setup.now)) (fit_of a.s) _ _ (fit_ends a.s a.flash_len)))

@@ -7,4 +7,4 @@ use Rattle.loader.proofs.reply.stays.Goals as goal
 pub returns : goal.returns
 returns c =
     let s = c.args.s in
-    answered_at s s _ _ _ _ _ c.answer.ensures.value c.answer.ensures.reply_after (ap (with_talk s) c.talk_of.ensures)
+    answered_at s s _ _ _ _ _ c.answer.ensures.value c.answer.ensures.reply_after (ap (with_talk s) c.talk.ensures)
