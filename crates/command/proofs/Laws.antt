@@ -3,14 +3,12 @@ use Prim.Native.Nat.{ℕ, ◌-◌, ◌≤◌}
 use mathlib.Core.Bool.{Bool, true, false, cond, ◌&&◌}
 use mathlib.Core.List.{List}
 use mathlib.Core.Logic.{inl, ⊎_elim}
-use mathlib.Core.Path.{◌≡◌, refl, sym, ap, subst, ◌∙◌}
+use mathlib.Core.Path.{◌≡◌, refl, sym, subst}
 use native.Mathlib.Omega.{arith}
-use borrow.Author.Tests.{leb-true, eqb-false, ne_eqb}
+use borrow.Author.Tests.{leb-true, eqb-false}
 use lib.Dec.{eqb, leb}
 use lib.ListN.{length, get_or, drop, length-drop}
-use Rattle.flash.specs.Flash.{start_of, Within, searched, nothing, found_number}
-use Rattle.flash.specs.declared.Addr.{Addr}
-use Rattle.std.proofs.Common.{Option}
+use Rattle.flash.specs.Flash.{start_of, Within}
 use Rattle.sums.specs.Sum.{Split}
 use Rattle.session.specs.Codes.{idle, download_idle, check_erased, address, vendor}
 use Rattle.session.specs.Session.{app_end, no_download, with_unerased, fresh_of}
@@ -25,7 +23,7 @@ use Rattle.jobs.specs.Job.{Plan, plan_of, Place, Can}
 use Rattle.jobs.proofs.Laws.{place_within}
 use Rattle.command.specs.Ready.{Ready, Loading}
 use Rattle.request.specs.Commands.{prog, read, check, erase, info, bin, reset}
-use Rattle.command.specs.Download.{all_erased, noted, wrote_of, fault_plan, telling, if_erased, prog_of, read_of, check_of}
+use Rattle.command.specs.Download.{all_erased, noted, wrote_of, fault_plan, if_erased, prog_of, read_of, check_of}
 use Rattle.command.specs.Download.{erase_of, info_of, bin_of, well_formed, by_number, command_of, closed_of, piece_of, dnload_of}
 
 module _ (s : Session) (f : List ℕ) (r : Ready s f) where
@@ -44,25 +42,10 @@ module _ (s : Session) (f : List ℕ) (r : Ready s f) where
   pub ready-place : (block len : ℕ) → in_application s.board block len ≡ true → Place s.board (start_of block) len
   ready-place block len e = let i = inside_facts s.board block len e in record { low = omega arith; high = i.to }
 
-  pub ready-range : (block len : ℕ) → in_application s.board block len ≡ true → Within f (start_of block) len
-  ready-range block len e = ready_within (start_of block) len (ready-place block len e)
+  pub ready_range : (block len : ℕ) → in_application s.board block len ≡ true → Within f (start_of block) len
+  ready_range block len e = ready_within (start_of block) len (ready-place block len e)
 
--- what a search of a range tells, from its answer, whether that was nothing, and its number
-module _
-    (f : List ℕ) (block len : ℕ) (found : Option Addr) (e : found ≡ searched f block len) (r : Bool) (h : r ≡ nothing found) (m : ℕ)
-    (k : m ≡ found_number found) where
-  pub told-erased : r ≡ all_erased f block len
-  unfolding all_erased
-  told-erased = h ∙ ap nothing e
-
-  pub told_number : m ≡ found_number (searched f block len)
-  told_number = k ∙ ap found_number e
-
--- a plan that tells a number is that of a session with it: a fault, the write of PROG, and what CHECK goes to
-pub telling_fault : (s : Session) (status m : ℕ) → telling (fault_plan s status) m ≡ fault_plan (with_unerased s m) status
-unfolding fault_of moved_to
-telling_fault s status m = refl
-
+-- what a plan picks by a test is the plan of what the outcome picks by it
 plan_cond : (t : Bool) (x y : Outcome) → cond t (plan_of x Job.Nothing) (plan_of y Job.Nothing) ≡ plan_of (cond t x y) Job.Nothing
 plan_cond true x y = refl
 plan_cond false x y = refl
@@ -90,19 +73,6 @@ long_enough d e =
     let known = eight && leb prog (get_or d 0 0) in
     let few = known && leb (get_or d 0 0) reset in
     leb-true _ _ (left_of eight _ (left_of known _ (left_of few _ e)))
-
--- any other number is RESET
-pub last_command : (code : ℕ) (s : Session) (f d : List ℕ)
-    → (code ≡ prog → ⊥)
-    → (code ≡ read → ⊥)
-    → (code ≡ check → ⊥)
-    → (code ≡ erase → ⊥)
-    → (code ≡ info → ⊥)
-    → (code ≡ bin → ⊥)
-    → by_number code s f d ≡ plan_of (reset_of s) Job.Nothing
-unfolding by_number
-last_command code s f d n1 n2 n3 n4 n5 n6 =
-    rw (ne_eqb _ _ n1, ne_eqb _ _ n2, ne_eqb _ _ n3, ne_eqb _ _ n4, ne_eqb _ _ n5, ne_eqb _ _ n6)
 
 -- a plan whose session has the same board, with a job that can be carried out
 pub record Doable (s : Session) (f d : List ℕ) (p : Plan) : Type 0 where

@@ -2,7 +2,8 @@
 // to it is answered as a job.
 #![tactic(auto)]
 
-ghost use Rattle.std.specs.Prelude.{◌+◌, ◌≤◌, ◌<◌, ◌≡◌, true, length, get_or};
+ghost use Rattle.std.specs.Prelude.{◌+◌, ◌≤◌, ◌<◌, ◌≡◌, ◌↔◌, true, IsSome, IfSome, length, get_or};
+ghost use Rattle.request.specs.Commands.{number_of};
 ghost use Rattle.flash.specs.Flash.{start_of, Within};
 ghost use Rattle.session.specs.Rules.{fit_of};
 ghost use Rattle.answers.specs.Answers.{heard_at};
@@ -19,6 +20,7 @@ use request::Command;
 use session::{Download, Phase, Session, State, Status, Upload};
 
 // The call's data, but for the first `skip` bytes of it, is to go to its places, and the download goes on behind these n bytes.
+#[tactic(auto, unfolding(crate::specs::Download::wrote_of))]
 fn write(s: Session, at: Addr, skip: u32, n: u32, left: u32) -> Decision
     requires { at.0 + n < 4294967296 }
     ensures { planned s result ≡ wrote_of s at.0 skip n left }
@@ -44,37 +46,7 @@ fn fault(s: Session, status: Status) -> Decision
     Decision::only(Heard::faulted(s, status))
 }
 
-// A decision that holds if all of a range is erased; else the fault. Either way what the search found is told.
-fn if_erased(s: Session, flash: &[u8], block: Block, len: u32, x: Decision) -> Decision
-    requires { Within flash.now (start_of block.0) len }
-    ensures { planned s result ≡ if_erased s flash.now block.0 len (planned s x) }
-{
-    let found = flash::search(flash, block, len);
-    let number = flash::found_number(found);
-    if found.is_some() {
-        let mut refused = fault(s, Status::CHECK_ERASED);
-        refused.heard.talk.unerased = number;
-        return refused;
-    }
-    let mut taken = x;
-    taken.heard.talk.unerased = number;
-    taken
-}
-
-fn prog(s: Session, flash: &[u8], block: Block, len: u32, n: usize) -> Decision
-    requires { Ready s flash.now }
-    ensures { planned s result ≡ prog_of s flash.now block.0 len n }
-{
-    if !s.board.in_application(block, len) {
-        return fault(s, Status::ADDRESS);
-    }
-    if (len as usize) < n {
-        return fault(s, Status::ADDRESS);
-    }
-    let x = write(s, block.start(), 8, n as u32, len - n as u32);
-    if_erased(s, flash, block, len, x)
-}
-
+#[tactic(auto, unfolding(crate::specs::Download::read_of, answers::specs::Moves::moved_to))]
 fn read(s: Session, block: Block, len: u32) -> Heard
     ensures { heard_at s result ≡ read_of s block.0 len }
 {
@@ -83,27 +55,17 @@ fn read(s: Session, block: Block, len: u32) -> Heard
     }
     let mut t = s;
     t.up.choice = Upload::FLASH_STREAM;
-    t.up.first.0 = block.0;
+    t.up.first = block;
     t.up.len = len;
     Heard::taken(answers::sync(t))
 }
 
-fn check(s: Session, flash: &[u8], block: Block, len: u32) -> Decision
-    requires { Ready s flash.now }
-    ensures { planned s result ≡ plan_of (check_of s flash.now block.0 len) Job.Nothing }
-{
-    if !s.board.in_application(block, len) {
-        return fault(s, Status::ADDRESS);
-    }
-    let x = Decision::only(Heard::taken(answers::sync(s)));
-    if_erased(s, flash, block, len, x)
-}
-
 // Blocks are as many bytes as lie before the block of their number.
-fn erase(s: Session, block: Block, count: u32) -> Decision
-    requires { count < 65536 }
+#[tactic(auto, unfolding(crate::specs::Download::erase_of))]
+fn erase(s: Session, block: Block, count: u16) -> Decision
     ensures { planned s result ≡ erase_of s block.0 count }
 {
+    let count = count as u32;
     let size = Block(count).start();
     if !s.board.in_application(block, size.0) {
         return fault(s, Status::ADDRESS);
@@ -117,6 +79,7 @@ fn erase(s: Session, block: Block, count: u32) -> Decision
     }
 }
 
+#[tactic(auto, unfolding(crate::specs::Download::info_of, answers::specs::Moves::moved_to))]
 fn info(s: Session) -> Heard
     ensures { heard_at s result ≡ info_of s }
 {
@@ -126,15 +89,14 @@ fn info(s: Session) -> Heard
 }
 
 // BIN's byte to the prefix flag: not zero asks for the bytes alone.
+#[tactic(auto, unfolding(crate::specs::Download::prefix_for))]
 fn prefix_for(flag: u8) -> u8
     ensures { result ≡ prefix_for flag }
 {
-    if flag == 0 {
-        return 1;
-    }
-    0
+    u8::from(flag == 0)
 }
 
+#[tactic(auto, unfolding(crate::specs::Download::bin_of, answers::specs::Moves::moved_to))]
 fn bin(s: Session, flag: u8) -> Heard
     ensures { heard_at s result ≡ bin_of s flag }
 {
@@ -144,43 +106,103 @@ fn bin(s: Session, flag: u8) -> Heard
     Heard::taken(answers::sync(t))
 }
 
-fn well_formed(d: &[u8]) -> bool
-    ensures { result ≡ well_formed d.now }
+// The command that the bytes are, if they are well formed: eight or more, with a known number first, and none behind any but PROG.
+#[tactic(auto, unfolding(crate::specs::Download::well_formed))]
+fn well_formed(d: &[u8]) -> Option<Command>
+    ensures known { IsSome result ↔ (well_formed d.now ≡ true) }
+    ensures number { IfSome result (λ command. number_of command ≡ get_or d.now 0 0) }
 {
     if d.len() < 8 {
-        return false;
+        return None;
     }
-    let code = d[0];
-    (Command::PROG <= code) & (code <= Command::RESET) & ((code == Command::PROG) | (d.len() == 8))
-}
-
-fn by_number(s: Session, flash: &[u8], d: &[u8]) -> Decision
-    requires ready { Ready s flash.now }
-    requires in_bounds { 8 ≤ length d.now }
-    ensures { planned s result ≡ by_number (get_or d.now 0 0) s flash.now d.now }
-{
-    let code = d[0];
-    let block = Block(numbers::word(d, 2) as u32);
-    let len = numbers::long(d, 4);
-    match code {
-        Command::PROG => prog(s, flash, block, len, d.len() - 8),
-        Command::READ => Decision::only(read(s, block, len)),
-        Command::CHECK => check(s, flash, block, len),
-        Command::ERASE => erase(s, block, numbers::word(d, 4) as u32),
-        Command::INFO => Decision::only(info(s)),
-        Command::BIN => Decision::only(bin(s, d[1])),
-        _ => Decision::only(Heard::reset(s)),
+    match Command::try_from(d[0]) {
+        Ok(Command::Prog) => Some(Command::Prog),
+        Ok(command) if d.len() == 8 => Some(command),
+        _ => None,
     }
 }
 
-fn command(s: Session, flash: &[u8], d: &[u8]) -> Decision
-    requires { Ready s flash.now }
-    ensures { planned s result ≡ command_of s flash.now d.now }
-{
-    if !well_formed(d) {
-        return fault(s, Status::VENDOR);
+// A session with the flash of its board, once a call has been found fit.
+#[derive(Clone, Copy)]
+struct Site<'a> {
+    session: &'a Session,
+    flash: &'a [u8],
+    ghost ready: { Ready session.now flash.now },
+}
+
+impl Site<'_> {
+    // A decision that holds if all of a range is erased; else the fault. Either way what the search found is told.
+    // The decision is a small value that costs no search to make: a closure in its place would be no plainer.
+    #[tactic(auto, unfolding(crate::specs::Download::all_erased, answers::specs::Moves::fault_of, answers::specs::Moves::moved_to))]
+    fn if_erased(&self, block: Block, len: u32, x: Decision) -> Decision
+        requires { Within self.now.flash.now (start_of block.0) len }
+        ensures { planned self.now.session.now result ≡ if_erased self.now.session.now self.now.flash.now block.0 len (planned self.now.session.now x) }
+    {
+        let found = flash::search(self.flash, block, len);
+        let number = flash::found_number(found);
+        if found.is_some() {
+            let mut refused = fault(*self.session, Status::CHECK_ERASED);
+            refused.heard.talk.unerased = number;
+            return refused;
+        }
+        let mut taken = x;
+        taken.heard.talk.unerased = number;
+        taken
     }
-    by_number(s, flash, d)
+
+    #[tactic(auto, using(crate::proofs::Laws::ready_range), unfolding(crate::specs::Download::prog_of))]
+    fn prog(&self, block: Block, len: u32, n: usize) -> Decision
+        ensures { planned self.now.session.now result ≡ prog_of self.now.session.now self.now.flash.now block.0 len n }
+    {
+        if !self.session.board.in_application(block, len) {
+            return fault(*self.session, Status::ADDRESS);
+        }
+        if (len as usize) < n {
+            return fault(*self.session, Status::ADDRESS);
+        }
+        let x = write(*self.session, block.start(), 8, n as u32, len - n as u32);
+        self.if_erased(block, len, x)
+    }
+
+    #[tactic(auto, using(crate::proofs::Laws::ready_range), unfolding(crate::specs::Download::check_of))]
+    fn check(&self, block: Block, len: u32) -> Decision
+        ensures { planned self.now.session.now result ≡ plan_of (check_of self.now.session.now self.now.flash.now block.0 len) Job.Nothing }
+    {
+        if !self.session.board.in_application(block, len) {
+            return fault(*self.session, Status::ADDRESS);
+        }
+        let x = Decision::only(Heard::taken(answers::sync(*self.session)));
+        self.if_erased(block, len, x)
+    }
+
+    // What a command does. A match says it more plainly than a table of functions would: each takes other parts of the bytes.
+    #[tactic(auto, unfolding(crate::specs::Download::by_number))]
+    fn by_number(&self, command: Command, d: &[u8]) -> Decision
+        requires { 8 ≤ length d.now }
+        ensures { planned self.now.session.now result ≡ by_number (number_of command) self.now.session.now self.now.flash.now d.now }
+    {
+        let block = Block(numbers::word(d, 2) as u32);
+        let len = numbers::long(d, 4);
+        match command {
+            Command::Prog => self.prog(block, len, d.len() - 8),
+            Command::Read => Decision::only(read(*self.session, block, len)),
+            Command::Check => self.check(block, len),
+            Command::Erase => erase(*self.session, block, numbers::word(d, 4)),
+            Command::Info => Decision::only(info(*self.session)),
+            Command::Bin => Decision::only(bin(*self.session, d[1])),
+            Command::Reset => Decision::only(Heard::reset(*self.session)),
+        }
+    }
+
+    #[tactic(auto, using(crate::proofs::Laws::long_enough), unfolding(crate::specs::Download::command_of))]
+    fn command(&self, d: &[u8]) -> Decision
+        ensures { planned self.now.session.now result ≡ command_of self.now.session.now self.now.flash.now d.now }
+    {
+        match well_formed(d) {
+            Some(command) => self.by_number(command, d),
+            None => fault(*self.session, Status::VENDOR),
+        }
+    }
 }
 
 #[tactic(auto, using(answers::proofs::Laws::taken_at), unfolding(crate::specs::Download::closed_of))]
@@ -193,6 +215,7 @@ fn close(s: Session) -> Heard
     Heard::taken(answers::manifest(s))
 }
 
+#[tactic(auto, unfolding(crate::specs::Download::piece_of))]
 fn piece(s: Session, n: usize) -> Decision
     requires s_value { fit_of s ≡ true }
     requires state_value { s.phase.state.0 ≡ 5 }
@@ -217,7 +240,8 @@ pub fn dnload(s: Session, flash: &[u8], d: &[u8]) -> Decision
     ensures { planned s result ≡ dnload_of s flash.now d.now }
 {
     if s.phase.state == State::IDLE {
-        command(s, flash, d)
+        let site = Site { session: &s, flash };
+        site.command(d)
     } else {
         piece(s, d.len())
     }

@@ -1,5 +1,8 @@
 -- The numbers of the eight-byte commands.
-use Rattle.std.specs.Prelude.{ℕ}
+use Rattle.std.specs.Prelude.{ℕ, ◌<◌, ◌≡◌, ◌⊎◌, Result, MatchResult}
+use Rattle.request.specs.declared.Command.{Command}
+use Rattle.request.specs.declared.Command.TheVariants.{Prog, Read, Check, Erase, Info, Bin, Reset}
+use Rattle.request.specs.declared.UnknownCommand.{UnknownCommand}
 
 abbrev pub prog : ℕ
 prog = 1
@@ -21,3 +24,17 @@ bin = 6
 
 abbrev pub reset : ℕ
 reset = 7
+
+-- the number of a command
+abbrev pub number_of : Command → ℕ
+number_of Prog = prog
+number_of Read = read
+number_of Check = check
+number_of Erase = erase
+number_of Info = info
+number_of Bin = bin
+number_of Reset = reset
+
+-- what a number is read as: the command with this number, or that it is no command's
+abbrev pub Decodes : ℕ → Result Command UnknownCommand → Type 0
+Decodes number r = MatchResult r (λ command. number_of command ≡ number) (λ e. (e.0 ≡ number) × ((number ≡ 0) ⊎ (reset < number)))

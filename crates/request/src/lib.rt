@@ -2,9 +2,12 @@
 #![tactic(auto)]
 
 ghost use Rattle.std.specs.Prelude.{◌≡◌, ◌↔◌, IsSome, IfSome, length};
+ghost use Rattle.request.specs.Commands.{number_of, Decodes};
 ghost use Rattle.request.specs.Request.{setup_of, form_of, data_for, allowed_of, row_of};
 
 use session::State;
+use std::error::Error;
+use std::fmt;
 
 #[derive(Clone, Copy, Debug, PartialEq, Eq)]
 pub enum Request {
@@ -17,25 +20,56 @@ pub enum Request {
     Query,
 }
 
-// The number of an eight-byte command; the byte after it and the rest are read by the command's own rules.
-#[derive(Clone, Copy)]
-pub struct Command(pub u8);
-
-impl Command {
-    pub const PROG: u8 = 1;
-
-    pub const READ: u8 = 2;
-
-    pub const CHECK: u8 = 3;
-
-    pub const ERASE: u8 = 4;
-
-    pub const INFO: u8 = 5;
-
-    pub const BIN: u8 = 6;
-
-    pub const RESET: u8 = 7;
+// The eight-byte commands, by the number in byte 0; the byte after it and the rest are read by the command's own rules.
+#[derive(Clone, Copy, Debug, PartialEq, Eq)]
+pub enum Command {
+    Prog = 1,
+    Read = 2,
+    Check = 3,
+    Erase = 4,
+    Info = 5,
+    Bin = 6,
+    Reset = 7,
 }
+
+// A number that is no command's.
+#[derive(Clone, Copy, Debug, PartialEq, Eq)]
+pub struct UnknownCommand(pub u8);
+
+impl TryFrom<u8> for Command {
+    type Error = UnknownCommand;
+
+    ghost try_from_gives = { Decodes };
+
+    fn try_from(number: u8) -> Result<Command, UnknownCommand> {
+        match number {
+            1 => Ok(Command::Prog),
+            2 => Ok(Command::Read),
+            3 => Ok(Command::Check),
+            4 => Ok(Command::Erase),
+            5 => Ok(Command::Info),
+            6 => Ok(Command::Bin),
+            7 => Ok(Command::Reset),
+            _ => Err(UnknownCommand(number)),
+        }
+    }
+}
+
+impl From<Command> for u8 {
+    ghost from_gives = { λ command number. number ≡ number_of command };
+
+    fn from(command: Command) -> u8 {
+        command as u8
+    }
+}
+
+impl fmt::Display for UnknownCommand {
+    fn fmt<W: fmt::Write>(&self, f: &mut fmt::Formatter<W>) -> fmt::Result {
+        write!(f, "no command has number {}", self.0)
+    }
+}
+
+impl Error for UnknownCommand {}
 
 // The parts of a setup: bmRequestType, bRequest, wValue, wIndex, wLength.
 #[derive(Clone, Copy, Debug, PartialEq, Eq)]

@@ -30,13 +30,14 @@ fn info(board: Board, unerased: u32) -> [u8; 24]
 }
 
 // A PROG header for the read range, so that what was read can be sent back as it is.
+#[tactic(auto, unfolding(crate::specs::Stream::header_of))]
 fn header(up: Upload) -> [u8; 8]
     ensures { result ≡ header_of up }
 {
     let block = numbers::low::<2>(up.first.0);
     let len = numbers::low::<4>(up.len);
     [
-        Command::PROG,
+        u8::from(Command::Prog),
         0,
         block[0],
         block[1],

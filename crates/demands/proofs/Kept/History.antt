@@ -24,7 +24,7 @@ use Rattle.answers.specs.Moves.{moved_to, stall_of, unfit_of, fault_of, reset_of
 use Rattle.jobs.specs.Job.{Place, sums_after}
 use Rattle.command.specs.Ready.{Ready}
 use Rattle.command.specs.Download.{info_of, bin_of}
-use Rattle.command.proofs.Laws.{pick, ready-split, ready_within, ready-place, ready-range}
+use Rattle.command.proofs.Laws.{pick, ready-split, ready_within, ready-place, ready_range}
 use Rattle.loader.specs.Reply.{polled, getstatus_of, getstate_of, query_of, answered}
 use Rattle.loader.specs.Upload.{upload_ends, uploading_at, uploaded_of, upload_of}
 use Rattle.loader.specs.Step.{fresh_start, start_outcome, step_of}
@@ -74,7 +74,7 @@ module _ (s : Session) (f : List ℕ) (r : Ready s f) (right : Summed s f) where
   unfolding erased
   erased_right block count i =
       let facts = inside_facts s.board block (start_of count) i in
-      let w = ready-range s f r block (start_of count) i in
+      let w = ready_range s f r block (start_of count) i in
       let split = ready-split s f r in
       let n = length-blank (start_of count) in
       let long = spliced-length f (start_of block) (blank (start_of count)) (omega arith) in

@@ -25,7 +25,7 @@ use Rattle.request.specs.declared.Request.{Request}
 use Rattle.answers.specs.Answers.{Leaves, Told}
 use Rattle.answers.specs.Moves.{moved_to, stall_of, unfit_of, fault_of, reset_of}
 use Rattle.command.specs.Download.{info_of, bin_of}
-use Rattle.command.proofs.Laws.{pick, ready_within, ready-range}
+use Rattle.command.proofs.Laws.{pick, ready_within, ready_range}
 use Rattle.loader.specs.Reply.{entered, polled, getstatus_of, getstate_of, query_of, answered}
 use Rattle.loader.specs.Upload.{upload_ends, uploading_at, uploaded_of, upload_of}
 use Rattle.loader.specs.Step.{fresh_start, start_outcome, step_of}
@@ -109,7 +109,7 @@ changes_named noted at c covers k =
       faults = λ _ _ _ _ _. refl;
       unerased = λ _ _ _ _ _. refl;
       programs = λ l p i n o.
-          let w = ready-range s f l.fit (word_at d 2) (long_at d 4) i in
+          let w = ready_range s f l.fit (word_at d 2) (long_at d 4) i in
           let out : NotNamed (prog_names d) k =
           subst (λ (r : NamedRange). NotNamed r k) (changes_prog noted s c _ refl l.is_dnload_lem l.here p) o
           in
@@ -129,7 +129,7 @@ changes_named noted at c covers k =
       reads = λ _ _ _. refl;
       checks = λ _ _. refl;
       erases = λ l p i o.
-          let w = ready-range s f l.fit (word_at d 2) (start_of (word_at d 4)) i in
+          let w = ready_range s f l.fit (word_at d 2) (start_of (word_at d 4)) i in
           let long = length-blank (start_of (word_at d 4)) in
           let out : NotNamed (erase_names d) k =
           subst (λ (r : NamedRange). NotNamed r k) (changes_erase noted s c _ refl l.is_dnload_lem l.here p) o

@@ -22,7 +22,7 @@ use Rattle.answers.specs.Answers.{Leaves, leaves}
 use Rattle.answers.specs.Moves.{moved_to, to_error, stall_of, unfit_of, fault_of, reset_of}
 use Rattle.jobs.specs.Job.{job_done}
 use Rattle.command.specs.Download.{all_erased, noted, info_of, bin_of}
-use Rattle.command.proofs.Laws.{pick, ready-range}
+use Rattle.command.proofs.Laws.{pick, ready_range}
 use Rattle.loader.specs.Reply.{getstatus_of, getstate_of, query_of, answered}
 use Rattle.loader.specs.Upload.{upload_of}
 use Rattle.loader.specs.Step.{ready, asked_of, step_of, decided_of, Decided, settled}
@@ -221,7 +221,7 @@ prepared_rows at c p =
             reset_asked = λ h. absurd (omega arith);
           };
       unerased = λ l comes i n _.
-          let w = ready-range s at.flash l.fit (word_at c.bytes 2) (long_at c.bytes 4) i in
+          let w = ready_range s at.flash l.fit (word_at c.bytes 2) (long_at c.bytes 4) i in
           record {
             stalled = λ h. absurd (omega arith);
             unfit = λ h. absurd (omega arith);
