@@ -10,7 +10,7 @@ ghost use Rattle.answers.specs.Moves.{moved_to, to_idle, to_error, to_sync, stal
 
 use session::{Download, Phase, Session, State, Status, Talk, Upload};
 
-// What the host hears.
+// What the host hears. No Result: all five go with a count of reply bytes, which is 0 in four of them, and the host is promised that.
 #[derive(Clone, Copy, PartialEq, Eq, Debug)]
 pub enum Answer {
     Taken,
@@ -51,7 +51,8 @@ impl From<Answer> for u32 {
     }
 }
 
-// The talk in another state than upload idle: an upload that ran is over.
+// The talk in another state than upload idle: an upload that ran is over. This and the next are no methods, since Session and Talk are of
+// another crate, which says what they are and moves none.
 #[tactic(auto, unfolding(crate::specs::Moves::moved_to))]
 pub fn moved(s: Session, phase: Phase, down: Download) -> Talk
     ensures { with_talk s result ≡ moved_to s phase down }

@@ -1,17 +1,14 @@
 -- A job's single stores leave the flash that it is said to leave, what can be carried out lies in flash, and stores and sums together are
 -- what a job is said to leave. Assumes nothing.
-use Prim.Native.Nat.{ℕ, ◌-◌, ◌≤◌}
+use Prim.Native.Nat.{ℕ, ◌-◌}
 use mathlib.Core.List.{List}
-use mathlib.Core.Path.{◌≡◌, refl, sym, ap, ap₂, subst, subst⁻¹, ◌∙◌}
+use mathlib.Core.Path.{◌≡◌, refl, sym, ap, ◌∙◌}
 use native.Mathlib.Omega.{arith}
 use lib.ListN.{length, take, drop, length-drop}
 use lib.Seq.{take_all}
-use Rattle.flash.specs.declared.Addr.{Addr}
-use Rattle.flash.specs.declared.Block.{Block}
-use Rattle.flash.specs.Flash.{start_of, Within, blank, spliced, erased, carried}
+use Rattle.flash.specs.Flash.{start_of, Within, blank, erased, carried}
 use Rattle.flash.proofs.Laws.{length-blank, stores-spliced}
-use Rattle.sums.specs.Sum.{Split, refreshed}
-use Rattle.sums.specs.declared.Sums.{Sums}
+use Rattle.sums.specs.Sum.{Split}
 use Rattle.session.specs.Session.{app_end}
 use Rattle.session.specs.declared.Board.{Board}
 use Rattle.session.specs.declared.Session.{Session}
@@ -22,7 +19,7 @@ use Rattle.jobs.specs.declared.Decision.{Decision}
 use Rattle.jobs.specs.declared.Job.{Job}
 use Rattle.jobs.specs.declared.Job.TheVariants.{Nothing, Bytes, Wipe}
 use Rattle.jobs.specs.Job.{plan_of, decision_of, planned}
-use Rattle.jobs.specs.Job.{Place, Can, Reaches, stores_for, sums_after, flash_done, sums_done, summed, job_done}
+use Rattle.jobs.specs.Job.{Place, Can, Reaches, stores_for, flash_done, sums_done, summed, job_done}
 
 -- what leaves flash alone, at a session
 pub only_at :

@@ -13,10 +13,9 @@ use Rattle.flash.specs.Flash.{start_of, ends_at, carried}
 use Rattle.flash.proofs.Reaching.{ends_at_lem}
 use Rattle.sums.specs.Sum.{Split}
 use Rattle.session.specs.Codes.{idle, download_idle, upload_idle}
-use Rattle.session.specs.Session.{allowed_split, board_of, app_end, stream_length, with_talk}
+use Rattle.session.specs.Session.{allowed_split, board_of, app_end, stream_length}
 use Rattle.session.specs.Rules.{fit_of, split_rule}
 use Rattle.session.specs.declared.Board.{Board}
-use Rattle.session.specs.declared.Talk.{Talk}
 use Rattle.session.specs.declared.Session.{Session}
 use Rattle.session.proofs.Laws.{fit_facts, split_facts, end_in_flash, end_after_start, stream_most}
 use Rattle.session.proofs.Tests.{left_of, right_of, either, pick_most}
@@ -32,7 +31,7 @@ use Rattle.answers.specs.Moves.{stall_of}
 use Rattle.answers.specs.declared.Answer.{Answer}
 use Rattle.answers.specs.declared.Heard.{Heard}
 use Rattle.answers.specs.declared.Outcome.{Outcome}
-use Rattle.answers.specs.Answers.{Done, Replied, outcome, replied, leaves, heard, heard_at}
+use Rattle.answers.specs.Answers.{Done, Replied, outcome, replied, leaves, heard_at}
 use Rattle.jobs.specs.declared.Decision.{Decision}
 use Rattle.jobs.specs.declared.Job.{Job}
 use Rattle.jobs.specs.Job.{Plan, decision_of, planned, Can, stores_for, sums_done, summed, job_done}
@@ -51,15 +50,6 @@ pub answered-by :
     → replied (outcome Answer.Taken n s) after ≡ answered s bytes before
 unfolding answered
 answered-by s bytes before after n p q = ap₂ (λ (k : ℕ) (l : List ℕ). replied (outcome Answer.Taken k s) l) p q
-
--- the same from what is heard, at the session that the talk leads to
-pub answered_at :
-    (s t : Session) (bytes before after : List ℕ) (talk : Talk) (h : Heard) → h ≡ heard Answer.Taken (length bytes) talk
-    → after ≡ bytes ++ drop (length bytes) before → with_talk s talk ≡ t → replied (heard_at s h) after ≡ answered t bytes before
-answered_at s t bytes before after talk h e q p =
-    ap (λ (y : Heard). replied (heard_at s y) after) e
-    ∙ answered-by (with_talk s talk) bytes before after (length bytes) refl q
-    ∙ ap (λ (y : Session). answered y bytes before) p
 
 -- where an upload stands, and how far an answer takes it
 module _ (s : Session) (f : List ℕ) (r : Ready s f) where

@@ -17,6 +17,7 @@ mod reply;
 mod upload;
 
 // A, B and the flash length as they must be.
+#[tactic(auto, using(crate::proofs::Laws::split_ends), unfolding(crate::specs::Step::startable))]
 fn allowed_start(flash_len: usize, a: Block, b: Block) -> bool
     ensures { result ≡ startable flash_len a.0 b.0 }
 {
@@ -24,6 +25,8 @@ fn allowed_start(flash_len: usize, a: Block, b: Block) -> bool
 }
 
 // The fresh session of a board, with the sums of its flash; answer 2 and a session of zeros where A, B or the length is wrong.
+// No Result: C is handed a session either way.
+#[tactic(auto, unfolding(crate::specs::Step::start_outcome, crate::specs::Step::fresh_start, crate::specs::Step::startable))]
 pub fn start(flash: &[u8], a: Block, b: Block, part0: u32, part1: u32) -> Outcome
     ensures { told result ≡ start_outcome flash.now a.0 b.0 part0 part1 }
 {
@@ -63,7 +66,7 @@ fn prepared(
     ready.then_some(parts)
 }
 
-// What an allowed request does.
+// What an allowed request does. A match over the enum, which is plainer than a table of functions: no two arms take the same arguments.
 fn serve(r: Request, s: Session, flash: &[u8], asked: u32, d: &[u8], reply: &mut [u8]) -> Decision
     requires { Served r s flash.now asked (length reply.old) }
     ensures { decided (planned s result) reply.new ≡ served r s flash.now asked d.now reply.old }

@@ -8,7 +8,8 @@ ghost use Rattle.loader.specs.Reply.{answered, entered, polled, poll_time, getst
 use answers::{Answer, Heard};
 use session::{Phase, Session, State, Talk};
 
-// Taken, with the bytes at the front of the reply.
+// Taken, with the bytes at the front of the reply. Each call below asks for all of the room, as a fact of its own: it is of the buffer that a
+// board lends, and a type around that would be made anew at each call.
 fn answer(talk: Talk, bytes: &[u8], reply: &mut [u8]) -> Heard
     requires { (length bytes.now ≤ length reply.old) × (length bytes.now ≤ 1024) }
     ensures value { result ≡ heard Answer.Taken (length bytes.now) talk }
@@ -24,6 +25,7 @@ fn answer(talk: Talk, bytes: &[u8], reply: &mut [u8]) -> Heard
 }
 
 // The same, where the talk stays as it is.
+#[tactic(auto, unfolding(crate::specs::Reply::answered))]
 fn stays(s: Session, bytes: &[u8], reply: &mut [u8]) -> Heard
     requires { (length bytes.now ≤ length reply.old) × (length bytes.now ≤ 1024) }
     ensures { replied (heard_at s result) reply.new ≡ answered s bytes.now reply.old }
@@ -65,6 +67,7 @@ fn poll_time(s: Session) -> u32
     0
 }
 
+#[tactic(auto, unfolding(crate::specs::Reply::answered, crate::specs::Reply::getstatus_of, crate::specs::Reply::polled))]
 pub fn getstatus(s: Session, reply: &mut [u8]) -> Heard
     requires { 1024 ≤ length reply.old }
     ensures { replied (heard_at s result) reply.new ≡ getstatus_of s reply.old }

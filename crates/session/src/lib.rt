@@ -119,7 +119,7 @@ impl Download {
     };
 }
 
-// What an upload reads. Flags are numbers, since a lent byte may hold anything.
+// What an upload reads. Flags and the choice are numbers and no enums, since a lent byte may hold anything.
 #[repr(C)]
 #[derive(Clone, Copy, PartialEq, Eq, Debug, Default)]
 pub struct Upload {
@@ -182,7 +182,8 @@ pub struct Session {
     pub sums: Sums,
 }
 
-// Whether a flash can have B blocks and the application start at block A.
+// Whether a flash can have B blocks and the application start at block A. Of two blocks and not of a Board, since a start asks it before there
+// is one.
 pub fn allowed_split(a: Block, b: Block) -> bool
     ensures { result ≡ allowed_split a.0 b.0 }
 {

@@ -9,7 +9,6 @@ use native.Mathlib.Omega.{arith}
 use lib.ListN.{length, take, drop, get_or, set, length-append, length-take, length-drop, drop_of_length-le, take-append-drop}
 use lib.Seq.{paste-suc, drop-drop, drop-append-le, drop-append-add, take-append-le, take-append-add, take_all, take_at, drop_at, length-take-le}
 use Rattle.std.proofs.lemmas.List.{append_assoc}
-use Rattle.flash.specs.Flash.{range}
 use Rattle.stream.specs.Stream.{Sent}
 
 -- one byte more
@@ -119,10 +118,3 @@ sent_front before room bytes n k h s =
 -- n bytes at most of a list, from a place on: how many they are
 pub part_length : (bytes : List ℕ) (place n : ℕ) → length (take n (drop place bytes)) ≡ min n (length bytes - place)
 part_length bytes place n = rw (length-take, length-drop)
-
--- a part of flash by its two ends is a range
-pub part_range : (flash : List ℕ) (at n from to : ℕ) → from ≡ at → to ≡ from + n → take (to - from) (drop from flash) ≡ range flash at n
-unfolding range
-part_range flash at n from to e f =
-    let g : to - from ≡ n = omega arith in
-    ap₂ (λ (k : ℕ) (j : ℕ). take k (drop j flash)) g e

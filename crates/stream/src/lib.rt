@@ -10,7 +10,8 @@ use flash::BLOCK;
 use request::Command;
 use session::{Board, Upload};
 
-// The info bytes.
+// The info bytes, one by one: there is no call that joins arrays, and copies to ranges would count places by hand.
+#[tactic(auto, unfolding(crate::specs::Stream::info_stream))]
 fn info(board: Board, unerased: u32) -> [u8; 24]
     requires { (start_of (app_end board) < 2 ^ 32) × (start_of board.a.0 < 2 ^ 32) }
     ensures { result ≡ info_stream board unerased }
@@ -78,6 +79,7 @@ fn send_info(board: Board, unerased: u32, from: usize, reply: &mut [u8]) -> usiz
     put(&info(board, unerased)[from..], reply)
 }
 
+#[tactic(auto, unfolding(flash::specs::Flash::range))]
 fn read_range(up: Upload, flash: &[u8]) -> &[u8]
     requires { Within flash.now (start_of up.first.0) up.len }
     ensures { result.now ≡ range flash.now (start_of up.first.0) up.len }

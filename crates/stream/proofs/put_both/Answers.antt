@@ -1,7 +1,6 @@
 -- What is left of the first part, and then of the second. Assumes nothing.
-use Rattle.std.proofs.Common.{ℕ, List, ◌++◌, sym, ap, ap₂, ◌∙◌, drop, take}
+use Rattle.std.proofs.Common.{ℕ, List, ◌++◌, sym, ap, ap₂, ◌∙◌, drop}
 use mathlib.Core.List.{append-nil}
-use Rattle.stream.specs.Stream.{Sent}
 use Rattle.stream.proofs.Giving.{sent_both, drop_both, drop_min, to_the_end, nothing_behind}
 use Rattle.stream.proofs.put_both.Goals as goal
 

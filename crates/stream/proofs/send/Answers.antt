@@ -1,5 +1,4 @@
 -- Each way out is one of the two streams, whose bytes lie at the front of the reply. Assumes nothing.
-use mathlib.Core.Path.{sym}
 use native.Mathlib.Omega.{arith}
 use Rattle.session.proofs.Laws.{info_length_lem}
 use Rattle.stream.specs.Stream.{next_of}

@@ -1,9 +1,7 @@
 -- What was sent is of the header, or of nothing, and then of the range. Assumes nothing.
-use mathlib.Core.Path.{sym, ap, ap₂, ◌∙◌}
+use mathlib.Core.Path.{sym, ap₂, ◌∙◌}
 use mathlib.Core.List.{◌++◌}
-use Rattle.std.proofs.Common.{ℕ, List, take, drop, length}
 use native.Mathlib.Omega.{arith}
-use Rattle.stream.specs.Stream.{Sent}
 use Rattle.stream.proofs.Giving.{to_the_end}
 use Rattle.stream.proofs.Laws.{parts_sum, prefix_on, prefix_off}
 use Rattle.stream.proofs.send_range.Goals as goal
