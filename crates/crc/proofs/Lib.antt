@@ -4,4 +4,5 @@ pub mod Bits
 pub mod Laws
 pub mod Joins
 pub mod Columns
+pub mod Tables
 pub mod Streams

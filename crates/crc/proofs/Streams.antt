@@ -1,20 +1,20 @@
 -- Eight sums side by side: a turn takes four bytes of each eighth, and the eighths' sums join to that of the block. Assumes nothing.
 use mathlib.Core.Path.{◌≡◌, refl, sym, ap, ap₂, ◌∙◌, subst}
-use mathlib.Core.List.{List, foldl}
-use Prim.Native.Nat.{ℕ, zero, suc, ◌+◌, ◌-◌, ◌*◌, ◌≤◌, ◌<◌}
+use mathlib.Core.List.{List, foldl, ◌++◌}
+use Prim.Native.Nat.{ℕ, zero, suc, ◌+◌, ◌-◌, ◌*◌, ◌/◌, ◌%◌, ◌≤◌, ◌<◌}
 use native.Mathlib.Decide.{ℕ_discrete}
 use native.Mathlib.Nat.{add-zero, mul-le-mul_right}
 use native.Mathlib.Omega.{arith}
-use lib.ListN.{length, get_or, set, replicate, drop, length-set, length-drop}
+use lib.ListN.{length, get_or, set, replicate, take, drop, length-set, length-drop}
+use Rattle.std.proofs.lemmas.List.{take-append-drop}
 use lib.Seq.{get_or-set_same, get_or-set_other}
 use lib.Bits.{bit_xor, xor_comm, xor_zero_l, xor_zero_r, xor_shifted}
 use Rattle.numbers.specs.Numbers.{long_at}
 use Rattle.crc.specs.Crc.{bit_steps, byte_step, crc_from}
-use Rattle.crc.specs.Join.{past_halves, Past}
-use Rattle.crc.specs.Eighths.{each_from, with_four, one_byte_on, first_sums, Ahead, joined_past, JoinOf}
+use Rattle.crc.specs.Eighths.{each_from, with_four, one_byte_on, first_sums, Ahead, joined_past, eighths_join}
 use Rattle.crc.proofs.Folds.{fold_next, fold_done}
 use Rattle.crc.proofs.Bits.{xor_assoc}
-use Rattle.crc.proofs.Laws.{bits_xor, bits_shifted}
+use Rattle.crc.proofs.Laws.{crc_append, bits_xor, bits_shifted}
 use Rattle.crc.proofs.Joins.{bits_add, crc_xor}
 
 -- ---- each of some numbers anew, by its element and as a loop
@@ -168,15 +168,15 @@ ahead_all {bytes} {before} {after} {at} {eighth} e a = subst (λ (k : ℕ). Ahea
 
 -- n bytes of each eighth, and m more
 pub ahead_more :
-    {bytes before between after : List ℕ} {at eighth n m all : ℕ} → all ≡ n + m → Ahead bytes at eighth n before between
-    → Ahead bytes (at + n) eighth m between after → Ahead bytes at eighth all before after
-ahead_more {bytes} {before} {between} {after} {at} {eighth} {n} {m} {all} e first then =
+    {bytes before between after : List ℕ} {at next eighth n m all : ℕ} → all ≡ n + m → next ≡ at + n
+    → Ahead bytes at eighth n before between → Ahead bytes next eighth m between after → Ahead bytes at eighth all before after
+ahead_more {bytes} {before} {between} {after} {at} {next} {eighth} {n} {m} {all} e there first then =
     record {
       long = then.long ∙ first.long;
       each = λ s near in_list.
           let p : ℕ = s * eighth in
-          let far : at + p + all ≡ at + n + p + m = omega arith in
-          let near_by : at + n + p ≡ at + p + n = omega arith in
+          let far : at + p + all ≡ next + p + m = omega arith in
+          let near_by : next + p ≡ at + p + n = omega arith in
           let long : length between ≡ length before = first.long in
           ap (λ (k : ℕ). crc_from (get_or after s 0) (drop k bytes)) far
           ∙ then.each s near (omega arith)
@@ -235,20 +235,6 @@ next_eighth (suc i) j {bytes} {sums} {at} {eighth} {running} {past} a inside som
     (a.each s near (omega arith) ∙ ap (λ (n : ℕ). crc_from n (drop (at + s * eighth) bytes)) (zeros 7 i))
     before
 
--- the walk over the sums: those that are left, joined to the running one, give the join of all
-abbrev pub JoinLeft : List ℕ → List ℕ → ℕ → ℕ → Type 0
-JoinLeft half sums sum s =
-    (bits : ℕ) → half ≡ past_halves bits → foldl (joined_past bits) sum (drop s sums) ≡ foldl (joined_past bits) (get_or sums 0 0) (drop 1 sums)
-
-pub join_next :
-    (half sums : List ℕ) (sum s past : ℕ) → s < length sums → Past half sum past → JoinLeft half sums sum s
-    → JoinLeft half sums (bit_xor past (get_or sums s 0)) (s + 1)
-join_next half sums sum s past h p left bits e =
-    fold_next (joined_past bits) sum _ sums s h (ap (λ (n : ℕ). bit_xor n (get_or sums s 0)) (p bits e)) ∙ left bits e
-
-pub join-done : (half sums : List ℕ) (sum s : ℕ) → length sums ≤ s → JoinLeft half sums sum s → JoinOf half sums sum
-join-done half sums sum s h left bits e = sym (fold_done (joined_past bits) sum sums s h) ∙ left bits e
-
 joined_from_lem :
     (n s j : ℕ) {bytes sums : List ℕ} {at eighth running : ℕ}
     → Ahead bytes at eighth eighth (first_sums running) sums → at + 8 * eighth ≤ length bytes → 0 < s → s + n ≡ 8
@@ -268,9 +254,27 @@ joined_from_lem (suc n) s j {bytes} {sums} {at} {eighth} {running} a inside some
 
 -- all eight
 pub eighths_joined :
-    {bytes half sums : List ℕ} {at eighth running sum : ℕ}
-    → Ahead bytes at eighth eighth (first_sums running) sums → JoinOf half sums sum → half ≡ past_halves (eighth * 8)
+    {bytes sums : List ℕ} {at eighth running sum : ℕ}
+    → Ahead bytes at eighth eighth (first_sums running) sums → sum ≡ eighths_join (eighth * 8) sums
     → (end : ℕ) → end ≡ at + 8 * eighth → end ≤ length bytes → crc_from sum (drop end bytes) ≡ crc_from running (drop at bytes)
-eighths_joined {bytes} {half} {sums} {at} {eighth} {running} {sum} a j h end e inside =
-    ap₂ (λ (n k : ℕ). crc_from n (drop k bytes)) (j (eighth * 8) h) e
+eighths_joined {bytes} {sums} {at} {eighth} {running} {sum} a j end e inside =
+    ap₂ (λ (n k : ℕ). crc_from n (drop k bytes)) j e
     ∙ joined_from_lem 7 1 (get_or sums 0 0) a (omega arith) (omega arith) (omega arith) (first_eighth a)
+
+-- a part is gone over: its sum comes of those of its eighths, and the rest goes on from it
+pub part_on :
+    (bytes : List ℕ) {part after sums : List ℕ} {running sum : ℕ} (size : ℕ) → size % 32 ≡ 0 → part ≡ take size bytes → after ≡ drop size bytes
+    → length part ≡ size → Ahead part 0 (size / 8) (size / 8) (first_sums running) sums → sum ≡ eighths_join size sums
+    → crc_from sum after ≡ crc_from running bytes
+unfolding crc_from
+part_on bytes {part} {after} {sums} {running} {sum} size whole front back long a j =
+    let eighth : ℕ = size / 8 in
+    let bits : size ≡ eighth * 8 = omega arith in
+    let end : ℕ = 0 + 8 * eighth in
+    let own : sum ≡ crc_from running part =
+    sym (fold_done byte_step sum part end (omega arith))
+    ∙ eighths_joined a (j ∙ ap (λ (n : ℕ). eighths_join n sums) bits) end refl (omega arith) in
+    ap₂ crc_from own back
+    ∙ sym (crc_append running part (drop size bytes))
+    ∙ ap (λ (front_part : List ℕ). crc_from running (front_part ++ drop size bytes)) front
+    ∙ ap (crc_from running) (take-append-drop size bytes)

@@ -1,17 +1,9 @@
--- A block's sum by its eighths: eight sums side by side over one block, joined where the block ends.
-use Rattle.std.specs.Prelude.{ℕ, zero, suc, ◌+◌, ◌*◌, ◌≤◌, ◌<◌, ◌≡◌, length, get_or, set, drop}
+-- A part's sum by its eighths: eight sums side by side over one part, joined where the part ends.
+use Rattle.std.specs.Prelude.{ℕ, zero, suc, ◌+◌, ◌*◌, ◌<◌, ◌≡◌, length, get_or, set, drop}
 use mathlib.Core.List.{List, [], ◌∷◌, foldl}
 use Rattle.std.specs.Int.Bits.{bit_xor}
 use Rattle.numbers.specs.Numbers.{long_at}
 use Rattle.crc.specs.Crc.{bit_steps, byte_step, crc_from}
-use Rattle.crc.specs.Join.{past_halves}
-
--- the bytes of a block, and the bits of its eighth, which has 128 bytes
-abbrev pub block_bytes : ℕ
-block_bytes = 1024
-
-abbrev pub eighth_bits : ℕ
-eighth_bits = 1024
 
 -- n numbers of a list, from place k on, each by its place and itself
 unfoldable pub each_from : (ℕ → ℕ → ℕ) → List ℕ → ℕ → ℕ → List ℕ
@@ -41,11 +33,6 @@ pub record Ahead (bytes : List ℕ) (at eighth n : ℕ) (before after : List ℕ
 abbrev pub joined_past : ℕ → ℕ → ℕ → ℕ
 joined_past bits before eighth = bit_xor (bit_steps bits before) eighth
 
--- the join of sums by a list: where it is that of so many bits, one after the other by those
-abbrev pub JoinOf : List ℕ → List ℕ → ℕ → Type 0
-JoinOf half sums sum = (bits : ℕ) → half ≡ past_halves bits → sum ≡ foldl (joined_past bits) (get_or sums 0 0) (drop 1 sums)
-
--- the sum has gone on over the bytes from one place to another, which is not past an end
-pub record Goes (bytes : List ℕ) (sum from sum' at end : ℕ) : Type 0 where
-  pub inside : at ≤ end
-  pub same : crc_from sum' (drop at bytes) ≡ crc_from sum (drop from bytes)
+-- sums joined, one after the other
+abbrev pub eighths_join : ℕ → List ℕ → ℕ
+eighths_join bits sums = foldl (joined_past bits) (get_or sums 0 0) (drop 1 sums)

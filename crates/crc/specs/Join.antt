@@ -1,5 +1,5 @@
 -- The join: the sum of some bytes and of a block behind them, from their two sums alone. The sum is linear over xor, so it needs no byte.
-use Rattle.std.specs.Prelude.{ℕ, ◌*◌, ◌/◌, ◌%◌, ◌^◌, ◌≡◌}
+use Rattle.std.specs.Prelude.{ℕ, ◌*◌, ◌/◌, ◌%◌, ◌^◌}
 use mathlib.Core.List.{List, foldl}
 use Rattle.std.specs.Int.Bits.{bit_xor}
 use Rattle.crc.specs.Values.{values}
@@ -27,7 +27,3 @@ joined_of blocks = joined_from start blocks
 -- what so many bits make of each half byte at each of its eight places: half byte i % 16 at place i / 16
 unfoldable pub past_halves : ℕ → List ℕ
 past_halves bits = values (λ i. bit_steps bits (i % 16 * 2 ^ (i / 16 * 4))) 0 128
-
--- what was made of a number by a list: where it is that of so many bits, what the bits make of it
-abbrev pub Past : List ℕ → ℕ → ℕ → Type 0
-Past half number past = (bits : ℕ) → half ≡ past_halves bits → past ≡ bit_steps bits number

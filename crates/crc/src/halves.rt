@@ -1,7 +1,41 @@
-// The tables of the joins: what the bits of so many bytes make of a number, half byte by half byte. Sixteen half bytes at each of eight
-// places, the lowest place first.
+// The tables of the joins: what so many bits make of a number, half byte by half byte. Sixteen half bytes at each of eight places, the
+// lowest place first. Each is a constant that refers to its table: that is read where it lies, and takes no stack.
 ghost use Rattle.std.specs.Prelude.{◌≡◌};
-ghost use Rattle.crc.specs.Join.{block_bits, past_halves};
+ghost use Rattle.crc.specs.Crc.{bit_steps};
+ghost use Rattle.crc.specs.Join.{past_halves};
+ghost use Rattle.crc.specs.Eighths.{joined_past, eighths_join};
+
+pub struct Halves<const BITS: usize> {
+    table: &'static [u32; 128],
+    ghost rule: { table.now ≡ past_halves BITS },
+}
+
+impl<const BITS: usize> Halves<BITS> {
+    // What the bits make of a number: each of its half bytes picks its part.
+    pub fn past(&self, number: u32) -> u32
+        ensures { result ≡ bit_steps BITS number }
+    {
+        let mut left = number;
+        let mut past = 0;
+        for place in 0usize..8 {
+            past ^= self.table[place * 16 + (left % 16) as usize];
+            left /= 16;
+        }
+        past
+    }
+
+    // One sum of the eight, in their order: what is joined so far goes through the bits of an eighth, and then comes the next.
+    pub fn join(&self, sums: [u32; 8]) -> u32
+        ensures { result ≡ eighths_join BITS sums }
+    {
+        sums[1..].iter().fold(
+            sums[0],
+            |sum, &next| -> u32
+                ensures { result ≡ joined_past BITS sum next }
+            { self.past(sum) ^ next },
+        )
+    }
+}
 
 // The bits of a block.
 const OF_1024: [u32; 128] = [
@@ -795,39 +829,14 @@ const OF_4: [u32; 128] = [
     0xBDBD_F21C,
 ];
 
-// Each table as a value, to be lent.
-pub fn of_block() -> [u32; 128]
-    ensures { result ≡ past_halves block_bits }
-{
-    OF_1024
-}
+pub const BITS_OF_1024: Halves<8192> = Halves { table: &OF_1024 };
 
-pub fn of_128() -> [u32; 128]
-    ensures { result ≡ past_halves 1024 }
-{
-    OF_128
-}
+pub const BITS_OF_128: Halves<1024> = Halves { table: &OF_128 };
 
-pub fn of_64() -> [u32; 128]
-    ensures { result ≡ past_halves 512 }
-{
-    OF_64
-}
+pub const BITS_OF_64: Halves<512> = Halves { table: &OF_64 };
 
-pub fn of_32() -> [u32; 128]
-    ensures { result ≡ past_halves 256 }
-{
-    OF_32
-}
+pub const BITS_OF_32: Halves<256> = Halves { table: &OF_32 };
 
-pub fn of_16() -> [u32; 128]
-    ensures { result ≡ past_halves 128 }
-{
-    OF_16
-}
+pub const BITS_OF_16: Halves<128> = Halves { table: &OF_16 };
 
-pub fn of_4() -> [u32; 128]
-    ensures { result ≡ past_halves 32 }
-{
-    OF_4
-}
+pub const BITS_OF_4: Halves<32> = Halves { table: &OF_4 };

@@ -1,9 +1,5 @@
-// The table of 256 remainders.
-ghost use Rattle.std.specs.Prelude.{◌≡◌};
-ghost use Rattle.crc.specs.Crc.{remainders};
-
-// The remainder of each byte: what eight bits of the division leave of it.
-const TABLE: [u32; 256] = [
+// The table of 256 remainders: of each byte what eight bits of the division leave of it.
+pub const TABLE: [u32; 256] = [
     0x0000_0000,
     0x7707_3096,
     0xEE0E_612C,
@@ -261,10 +257,3 @@ const TABLE: [u32; 256] = [
     0x5A05_DF1B,
     0x2D02_EF8D,
 ];
-
-// The table as a value: one that is lent is read in place, where a constant is built anew at each index.
-pub fn table() -> [u32; 256]
-    ensures { result ≡ remainders }
-{
-    TABLE
-}

@@ -1,15 +1,18 @@
--- What doesn't fill a block, and then whole blocks.
-use Prim.Native.Nat.{◌%◌}
-use mathlib.Core.Path.{sym, ◌∙◌}
-use native.Mathlib.Omega.{arith}
-use lib.ListN.{length}
-use Rattle.crc.specs.Crc.{byte_step, crc_from}
-use Rattle.crc.specs.Eighths.{block_bytes}
-use Rattle.crc.proofs.Folds.{fold_done}
+-- Each constant's table is that of its bits (Tables).
+use Rattle.crc.proofs.Tables.{of_4, of_16, of_32, of_64, of_128}
 use Rattle.crc.proofs.sum_from.Goals as goal
 
-pub returns-then-odd-bytes : goal.returns-then-odd-bytes
-unfolding crc_from
-returns-then-odd-bytes c =
-    let bytes = c.args.bytes.now in
-    sym (fold_done byte_step c.head.result bytes (length bytes % block_bytes) (omega arith)) ∙ c.head.ensures
+pub invariant_of-over_parts : goal.invariant_of-over_parts
+invariant_of-over_parts c = record { rule = of_128 }
+
+pub invariant_of-over_parts-2 : goal.invariant_of-over_parts-2
+invariant_of-over_parts-2 c = record { rule = of_64 }
+
+pub invariant_of-over_parts-3 : goal.invariant_of-over_parts-3
+invariant_of-over_parts-3 c = record { rule = of_32 }
+
+pub invariant_of-over_parts-4 : goal.invariant_of-over_parts-4
+invariant_of-over_parts-4 c = record { rule = of_16 }
+
+pub invariant_of-over_parts-5 : goal.invariant_of-over_parts-5
+invariant_of-over_parts-5 c = record { rule = of_4 }

@@ -3,16 +3,8 @@ use native.Mathlib.Omega.{arith}
 use Rattle.crc.proofs.Streams.{turn_ahead, ahead_none, ahead_all, ahead_more}
 use Rattle.crc.proofs.eighths.eighths.Goals as goal
 
-pub loop-k-init : goal.loop-k-init
-loop-k-init c = (omega arith, ahead_none _ _ _ _)
-
-pub loop-k-preserved : goal.loop-k-preserved
-loop-k-preserved c = (
-  omega arith,
-  ahead_more (omega arith) c.loop-k.invariant.1
-      (turn_ahead (λ k. omega (arith, c.type_inv.bytes k)) (omega arith) c.put_in.ensures c.step_all.ensures
-      c.step_all-in-loop-k.ensures c.step_all-in-loop-k-2.ensures c.step_all-in-loop-k-3.ensures),
-)
-
-pub returns : goal.returns
-returns c = ahead_all (omega arith) c.loop-k.invariant.1
+pub loop-turn-preserved : goal.loop-turn-preserved
+loop-turn-preserved g c =
+    ahead_more (omega arith) (omega arith) c.loop-turn.invariant
+    (turn_ahead (λ k. omega (arith, c.type_inv.part k)) (omega arith) c.put_in.ensures c.step_all.ensures
+    c.step_all-in-loop-turn.ensures c.step_all-in-loop-turn-2.ensures c.step_all-in-loop-turn-3.ensures)

@@ -5,7 +5,4 @@ use Rattle.crc.specs.Eighths.{each_from, with_four}
 use Rattle.crc.proofs.eighths.put_in.Given as goal
 
 abbrev pub invariant-loop-s : goal.invariant-loop-s
-invariant-loop-s l = (l.s ≤ 8) × (each_from (with_four l.bytes l.at l.eighth) l.sums l.s (8 - l.s) ≡ each_from (with_four l.bytes l.at l.eighth) l.initial.sums 0 8)
-
-abbrev pub decreases-loop-s : goal.decreases-loop-s
-decreases-loop-s l = 8 - l.s
+invariant-loop-s l = each_from (with_four l.bytes l.at l.eighth) l.sums l.s (8 - l.s) ≡ each_from (with_four l.bytes l.at l.eighth) l.initial.sums 0 8
