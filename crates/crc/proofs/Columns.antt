@@ -11,7 +11,7 @@ use lib.Pow.{pow_mono, pow-lt, shl_lt, shr_lt}
 use lib.Bits.{bit_xor}
 use Rattle.crc.specs.Values.{values}
 use Rattle.crc.specs.Crc.{bit_step, bit_steps}
-use Rattle.crc.specs.Join.{past_halves}
+use Rattle.crc.specs.Join.{half_rows, past_halves}
 use Rattle.crc.proofs.Values.{values_same, map-values}
 use Rattle.crc.proofs.Bits.{of_digits, low_digit, parted}
 use Rattle.crc.proofs.Laws.{bits_fit, bits_xor}
@@ -32,8 +32,8 @@ columns_of zero = values (λ j. bit_step (2 ^ j)) 0 32
 columns_of (suc k) = squared (columns_of k)
 
 -- what columns make of each half byte at each of its places
-unfoldable pub halves : List ℕ → List ℕ
-halves columns = values (λ i. through columns (i % 16 * 2 ^ (i / 16 * 4))) 0 128
+unfoldable pub halves : List ℕ → List (List ℕ)
+halves columns = half_rows (through columns) 0 8
 
 -- the columns of m bit steps make of a number what the steps make of it
 abbrev of_steps : ℕ → ℕ → ℕ
@@ -72,12 +72,20 @@ columns_are (suc k) =
     ∙ sym (bits_add m m (2 ^ j))
     ∙ ap (λ (n : ℕ). bit_steps n (2 ^ j)) (sym (two-pow-succ k))
 
+-- two functions that make the same of all numbers of 32 bits have the same rows
+rows_same :
+    (f g : ℕ → ℕ) (n place : ℕ) → place + n ≡ 8 → ((x : ℕ) → x < 2 ^ 32 → f x ≡ g x) → half_rows f place n ≡ half_rows g place n
+unfolding half_rows
+rows_same f g zero place e h = refl
+rows_same f g (suc n) place e h =
+    ap₂ (λ (row : List ℕ) (rows : List (List ℕ)). row ∷ rows)
+    (values_same _ _ 16 λ digit lt.
+    let narrow : 4 + place * 4 ≤ 32 = omega arith in
+    h (digit * 2 ^ (place * 4)) (lt_of_lt_of_le (shl_lt 4 (place * 4) lt) (pow_mono narrow)))
+    (rows_same f g n (place + 1) (omega arith) h)
+
 pub halves_are : (k : ℕ) → halves (columns_of k) ≡ past_halves (2 ^ k)
 unfolding halves past_halves
 halves_are k =
-    values_same _ _ 128 λ i lt.
-    let x : ℕ = i % 16 * 2 ^ (i / 16 * 4) in
-    let narrow : 4 + i / 16 * 4 ≤ 32 = omega arith in
-    ap (λ (columns : List ℕ). through columns x) (columns_are k)
-    ∙ through_steps (2 ^ k) 32 0 x (lt_of_lt_of_le (shl_lt 4 (i / 16 * 4) (mod-lt i (zero-lt-suc 15))) (pow_mono narrow))
-    ∙ ap (bit_steps (2 ^ k)) (mul-one x)
+    rows_same (through (columns_of k)) (bit_steps (2 ^ k)) 8 0 refl λ x lt.
+    ap (λ (columns : List ℕ). through columns x) (columns_are k) ∙ through_steps (2 ^ k) 32 0 x lt ∙ ap (bit_steps (2 ^ k)) (mul-one x)

@@ -3,13 +3,14 @@ use mathlib.Core.Path.{◌≡◌, refl, sym, ap, ap₂, ◌∙◌, subst}
 use mathlib.Core.List.{List, [], ◌∷◌}
 use Prim.Native.Nat.{ℕ, zero, suc, ◌+◌, ◌-◌, ◌*◌, ◌/◌, ◌%◌, ◌^◌, ◌≤◌, ◌<◌}
 use native.Mathlib.Nat.{zero-mul, mul-one, zero-add, suc-add, zero-lt-suc, mod-lt}
+use native.Mathlib.Numerals.{add-one}
 use native.Mathlib.Omega.{arith}
-use lib.Arith.{digits_div, digits_mod}
-use lib.ListN.{length, get_or}
+use lib.ListN.{length, get_or, drop, drop_of_length-le}
+use lib.Seq.{drop-cons}
 use lib.Pow.{shr_lt}
 use lib.Bits.{bit_xor, xor_comm, xor_self, xor_zero_l, xor_zero_r}
 use Rattle.crc.specs.Crc.{start, bit_step, bit_steps, byte_step, crc_from, crc_of}
-use Rattle.crc.specs.Join.{block_bits, joined, past_halves}
+use Rattle.crc.specs.Join.{block_bits, joined, half_rows, past_halves}
 use Rattle.crc.proofs.Values.{values_at}
 use Rattle.crc.proofs.Bits.{xor_assoc, parted}
 use Rattle.crc.proofs.Laws.{bits_xor}
@@ -56,61 +57,50 @@ crc_joined c block e =
 
 -- ---- so many bits by half bytes
 
--- an entry of the list is what the bits make of its half byte at its place
-half_at : (bits place d : ℕ) → place < 8 → d < 16 → get_or (past_halves bits) (place * 16 + d) 0 ≡ bit_steps bits (d * 2 ^ (place * 4))
-unfolding past_halves
-half_at bits place d near few =
-    values_at _ 128 (place * 16 + d) (omega arith)
-    ∙ ap₂ (λ (m n : ℕ). bit_steps bits (m * 2 ^ (n * 4))) (digits_mod place few) (digits_div place few)
-
--- the xor of what n half bytes of a number pick from a list, from a place on
-unfoldable pub picked_from : List ℕ → ℕ → ℕ → ℕ → ℕ
-picked_from half place zero number = 0
-picked_from half place (suc n) number =
-    bit_xor (get_or half (place * 16 + number % 16) 0) (picked_from half (place + 1) n (number / 16))
-
--- and of what all eight pick
-unfoldable pub picked : List ℕ → ℕ → ℕ
-picked half number = picked_from half 0 8 number
+-- the xor of what the half bytes of a number pick from rows, the lowest from the first
+unfoldable pub picked : List (List ℕ) → ℕ → ℕ
+picked [] number = 0
+picked (row ∷ rows) number = bit_xor (get_or row (number % 16) 0) (picked rows (number / 16))
 
 picked_steps :
-    (bits n place number : ℕ) → place + n ≤ 8 → number < 2 ^ (n * 4)
-    → picked_from (past_halves bits) place n number ≡ bit_steps bits (number * 2 ^ (place * 4))
-unfolding picked_from
-picked_steps bits zero place number near few =
+    (bits n place number : ℕ) → number < 2 ^ (n * 4)
+    → picked (half_rows (bit_steps bits) place n) number ≡ bit_steps bits (number * 2 ^ (place * 4))
+unfolding half_rows picked
+picked_steps bits zero place number few =
     let none : number ≡ 0 = omega arith in
     sym (ap (λ (m : ℕ). bit_steps bits (m * 2 ^ (place * 4))) none ∙ ap (bit_steps bits) (zero-mul (2 ^ (place * 4))) ∙ bits_none bits)
-picked_steps bits (suc n) place number near few =
+picked_steps bits (suc n) place number few =
     let on : (place + 1) * 4 ≡ place * 4 + 4 = omega arith in
     let size : suc n * 4 ≡ n * 4 + 4 = omega arith in
     let low : ℕ = number % 16 * 2 ^ (place * 4) in
     ap₂ bit_xor
-    (half_at bits place (number % 16) (omega arith) (mod-lt number (zero-lt-suc 15)))
-    (picked_steps bits n (place + 1) (number / 16) (omega arith) (shr_lt (n * 4) 4 (subst (λ (m : ℕ). number < 2 ^ m) size few))
+    (values_at _ 16 (number % 16) (mod-lt number (zero-lt-suc 15)))
+    (picked_steps bits n (place + 1) (number / 16) (shr_lt (n * 4) 4 (subst (λ (m : ℕ). number < 2 ^ m) size few))
     ∙ ap (λ (m : ℕ). bit_steps bits (number / 16 * 2 ^ m)) on)
     ∙ sym (bits_xor bits low (number / 16 * 2 ^ (place * 4 + 4)))
     ∙ ap (bit_steps bits) (parted 4 (place * 4) number)
 
--- the list of so many bits does what the bits do
-pub picked_bits : (bits number : ℕ) {half : List ℕ} → half ≡ past_halves bits → number < 2 ^ 32 → picked half number ≡ bit_steps bits number
-unfolding picked
-picked_bits bits number {half} e few =
-    ap (λ (l : List ℕ). picked_from l 0 8 number) e ∙ picked_steps bits 8 0 number (omega arith) few ∙ ap (bit_steps bits) (mul-one number)
+-- the rows of so many bits do what the bits do
+pub picked_bits : (bits number : ℕ) {rows : List (List ℕ)} → rows ≡ past_halves bits → number < 2 ^ 32 → picked rows number ≡ bit_steps bits number
+unfolding past_halves
+picked_bits bits number {rows} e few =
+    ap (λ (l : List (List ℕ)). picked l number) e ∙ picked_steps bits 8 0 number few ∙ ap (bit_steps bits) (mul-one number)
 
--- the walk over the half bytes: what is picked so far, and what is left to pick
+-- the rows of so many bits are eight
+pub rows_length : (bits : ℕ) {rows : List (List ℕ)} → rows ≡ past_halves bits → length rows ≡ 8
+unfolding past_halves half_rows
+rows_length bits e = ap length e
+
+-- the walk over the rows: what is picked so far, and what is left to pick
 pub picked_next :
-    (half : List ℕ) (place left sum : ℕ) → place < 8
-    → bit_xor (bit_xor sum (get_or half (place * 16 + left % 16) 0)) (picked_from half (place + 1) (8 - (place + 1)) (left / 16))
-    ≡ bit_xor sum (picked_from half place (8 - place) left)
-unfolding picked_from
-picked_next half place left sum near =
-    let n : ℕ = 8 - (place + 1) in
-    let more : 8 - place ≡ suc n = omega arith in
-    xor_assoc sum (get_or half (place * 16 + left % 16) 0) (picked_from half (place + 1) n (left / 16))
-    ∙ sym (ap (λ (m : ℕ). bit_xor sum (picked_from half place m left)) more)
+    (rows : List (List ℕ)) (i left sum : ℕ) → i < length rows
+    → bit_xor (bit_xor sum (get_or (get_or rows i []) (left % 16) 0)) (picked (drop (i + 1) rows) (left / 16))
+    ≡ bit_xor sum (picked (drop i rows) left)
+unfolding picked
+picked_next rows i left sum near =
+    let row : List ℕ = get_or rows i [] in
+    rw (drop-cons rows i [], add-one) (xor_assoc sum (get_or row (left % 16) 0) (picked (drop (suc i) rows) (left / 16)))
 
-pub picked_done : (half : List ℕ) (place left sum : ℕ) → place ≡ 8 → bit_xor sum (picked_from half place (8 - place) left) ≡ sum
-unfolding picked_from
-picked_done half place left sum e =
-    let none : 8 - place ≡ 0 = omega arith in
-    ap (λ (m : ℕ). bit_xor sum (picked_from half place m left)) none ∙ xor_zero_r sum
+pub picked_done : (rows : List (List ℕ)) (i left sum : ℕ) → length rows ≤ i → bit_xor sum (picked (drop i rows) left) ≡ sum
+unfolding picked
+picked_done rows i left sum all = rw (drop_of_length-le rows all) (xor_zero_r sum)

@@ -26,7 +26,7 @@ fn byte_step(running: u32, byte: u8) -> u32
 
 // The sum goes on from a running value: what was summed so far is its only memory. Parts come first, the largest before the smaller, and
 // then what fills none, byte by byte.
-#[tactic(auto, unfolding(crate::specs::Crc::crc_from))]
+#[tactic(auto, using(crate::proofs::Tables::rules_of_tables), unfolding(crate::specs::Crc::crc_from))]
 pub fn sum_from(running: u32, bytes: &[u8]) -> u32
     ensures { result ≡ crc_from running bytes.now }
 {
@@ -54,7 +54,7 @@ pub fn sum(bytes: &[u8]) -> u32
 }
 
 // The sum of some bytes and a block of 1,024 behind them, from the sum of the bytes and that of the block.
-#[tactic(auto, unfolding(crate::specs::Join::joined))]
+#[tactic(auto, using(crate::proofs::Tables::rules_of_tables), unfolding(crate::specs::Join::joined))]
 pub fn join(before: u32, block: u32) -> u32
     ensures { result ≡ joined before block }
 {
