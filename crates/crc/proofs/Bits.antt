@@ -1,11 +1,11 @@
 -- Xor, one binary digit at a time. Assumes nothing.
-use mathlib.Core.Path.{◌≡◌, refl, sym, ap, ap₂, ◌∙◌}
+use mathlib.Core.Path.{◌≡◌, sym, ap, ◌∙◌}
 use Prim.Native.Nat.{ℕ, zero, suc, ◌+◌, ◌*◌, ◌/◌, ◌%◌, ◌^◌, ◌<◌}
 use native.Mathlib.Nat.{mod-lt, zero-lt-suc, div-add-mod', add_comm, mul-one, mul_assoc, add-mul}
 use native.Mathlib.Omega.{arith}
-use lib.Arith.{bin_ind, digits_div, digits_mod}
+use lib.Arith.{digits_mod}
 use lib.Pow.{pow_pos, pow-add, shl_lt}
-use lib.Bits.{bit_xor, differ, xor_step, xor_comm, xor_shifted}
+use lib.Bits.{bit_xor, differ, xor_assoc, xor_step, xor_comm, xor_shifted}
 
 -- what holds of 0 and of 1 holds of every digit
 pub of_digits : (P : ℕ → Type 0) → P 0 → P 1 → (x : ℕ) → x < 2 → P x
@@ -20,31 +20,12 @@ differ_digit : (x y : ℕ) → x < 2 → y < 2 → differ x y < 2
 differ_digit x y hx hy =
     of_digits (λ (a : ℕ). differ a y < 2) hy (of_digits (λ (b : ℕ). differ 1 b < 2) (omega arith) (omega arith) y hy) x hx
 
-differ_assoc : (x y z : ℕ) → x < 2 → y < 2 → z < 2 → differ (differ x y) z ≡ differ x (differ y z)
-differ_assoc x y z hx hy hz =
-    of_digits (λ (a : ℕ). differ (differ a y) z ≡ differ a (differ y z)) refl
-    (of_digits (λ (b : ℕ). differ (differ 1 b) z ≡ differ 1 (differ b z)) refl
-    (of_digits (λ (d : ℕ). d ≡ differ 1 (differ 1 d)) refl refl z hz) y hy) x hx
-
 low_differ : (a b : ℕ) → differ (a % 2) (b % 2) < 2
 low_differ a b = differ_digit (a % 2) (b % 2) (low_digit a) (low_digit b)
 
--- the low digit of a xor, and the rest of it
+-- the low digit of a xor
 pub xor_low : (a b : ℕ) → bit_xor a b % 2 ≡ differ (a % 2) (b % 2)
 xor_low a b = ap (λ (x : ℕ). x % 2) (xor_step a b) ∙ digits_mod (bit_xor (a / 2) (b / 2)) (low_differ a b)
-
-pub xor_half : (a b : ℕ) → bit_xor a b / 2 ≡ bit_xor (a / 2) (b / 2)
-xor_half a b = ap (λ (x : ℕ). x / 2) (xor_step a b) ∙ digits_div (bit_xor (a / 2) (b / 2)) (low_differ a b)
-
-pub xor_assoc : (a b c : ℕ) → bit_xor (bit_xor a b) c ≡ bit_xor a (bit_xor b c)
-xor_assoc a =
-    bin_ind (λ (n : ℕ). (b c : ℕ) → bit_xor (bit_xor n b) c ≡ bit_xor n (bit_xor b c)) (λ b c. refl)
-    (λ n ih b c.
-    xor_step (bit_xor n b) c
-    ∙ ap₂ (λ (x y : ℕ). bit_xor x (c / 2) * 2 + differ y (c % 2)) (xor_half n b) (xor_low n b)
-    ∙ ap₂ (λ (x y : ℕ). x * 2 + y) (ih (b / 2) (c / 2)) (differ_assoc (n % 2) (b % 2) (c % 2) (low_digit n) (low_digit b) (low_digit c))
-    ∙ sym (ap₂ (λ (x y : ℕ). bit_xor (n / 2) x * 2 + differ (n % 2) y) (xor_half b c) (xor_low b c))
-    ∙ sym (xor_step n (bit_xor b c))) a
 
 -- the two in the middle change places
 pub xor_swap : (a b c d : ℕ) → bit_xor (bit_xor a b) (bit_xor c d) ≡ bit_xor (bit_xor a c) (bit_xor b d)

@@ -1,18 +1,18 @@
 -- The laws of the join: what a sum is after a block, from the block's own sum; and how so many bits go by half bytes. Assumes nothing.
 use mathlib.Core.Path.{◌≡◌, refl, sym, ap, ap₂, ◌∙◌, subst}
 use mathlib.Core.List.{List, [], ◌∷◌}
-use Prim.Native.Nat.{ℕ, zero, suc, ◌+◌, ◌-◌, ◌*◌, ◌/◌, ◌%◌, ◌^◌, ◌≤◌, ◌<◌}
+use Prim.Native.Nat.{ℕ, zero, suc, ◌+◌, ◌*◌, ◌/◌, ◌%◌, ◌^◌, ◌≤◌, ◌<◌}
 use native.Mathlib.Nat.{zero-mul, mul-one, zero-add, suc-add, zero-lt-suc, mod-lt}
 use native.Mathlib.Numerals.{add-one}
 use native.Mathlib.Omega.{arith}
 use lib.ListN.{length, get_or, drop, drop_of_length-le}
 use lib.Seq.{drop-cons}
 use lib.Pow.{shr_lt}
-use lib.Bits.{bit_xor, xor_comm, xor_self, xor_zero_l, xor_zero_r}
+use lib.Bits.{bit_xor, xor_assoc, xor_comm, xor_self, xor_zero_l, xor_zero_r}
 use Rattle.crc.specs.Crc.{start, bit_step, bit_steps, byte_step, crc_from, crc_of}
 use Rattle.crc.specs.Join.{block_bits, joined, half_rows, past_halves}
 use Rattle.crc.proofs.Values.{values_at}
-use Rattle.crc.proofs.Bits.{xor_assoc, parted}
+use Rattle.crc.proofs.Bits.{parted}
 use Rattle.crc.proofs.Laws.{bits_xor}
 
 -- ---- a block behind some bytes
@@ -104,3 +104,5 @@ picked_next rows i left sum near =
 pub picked_done : (rows : List (List ℕ)) (i left sum : ℕ) → length rows ≤ i → bit_xor sum (picked (drop i rows) left) ≡ sum
 unfolding picked
 picked_done rows i left sum all = rw (drop_of_length-le rows all) (xor_zero_r sum)
+
+pub ruleset walks = (xor_zero_l, rows_length, picked_next, picked_done, picked_bits)

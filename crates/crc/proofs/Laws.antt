@@ -10,7 +10,7 @@ use lib.ListN.{get_or}
 use lib.Bits.{bit_xor, differ, xor_lt, xor_shr, xor_zero_r, shifted_half, shifted_even}
 use Rattle.crc.specs.Crc.{polynomial, start, bit_step, bit_steps, byte_step, crc_from, crc_of, remainders}
 use Rattle.crc.proofs.Values.{values_at}
-use Rattle.crc.proofs.Bits.{of_digits, low_digit, xor_low, xor_half, xor_swap, high_xor_low}
+use Rattle.crc.proofs.Bits.{of_digits, low_digit, xor_low, xor_swap, high_xor_low}
 
 -- bytes in a row are summed one list after the other
 pub crc_append : (c : ℕ) (xs ys : List ℕ) → crc_from c (xs ++ ys) ≡ crc_from (crc_from c xs) ys
@@ -69,7 +69,7 @@ added_differ x y hx hy =
 pub bit_xor_lem : (a b : ℕ) → bit_step (bit_xor a b) ≡ bit_xor (bit_step a) (bit_step b)
 unfolding bit_step
 bit_xor_lem a b =
-    ap₂ (λ (h d : ℕ). bit_xor h (added d)) (xor_half a b) (xor_low a b)
+    ap₂ (λ (h d : ℕ). bit_xor h (added d)) (xor_shr a b 1) (xor_low a b)
     ∙ ap (bit_xor (bit_xor (a / 2) (b / 2))) (added_differ (a % 2) (b % 2) (low_digit a) (low_digit b))
     ∙ xor_swap (a / 2) (b / 2) (added (a % 2)) (added (b % 2))
 

@@ -1,19 +1,18 @@
 -- Eight sums side by side: a turn takes four bytes of each eighth, and the eighths' sums join to that of the block. Assumes nothing.
-use mathlib.Core.Path.{◌≡◌, refl, sym, ap, ap₂, ◌∙◌, subst}
+use mathlib.Core.Path.{◌≡◌, refl, sym, ap, ap₂, ◌∙◌}
 use mathlib.Core.List.{List, foldl, ◌++◌}
 use Prim.Native.Nat.{ℕ, zero, suc, ◌+◌, ◌-◌, ◌*◌, ◌/◌, ◌%◌, ◌≤◌, ◌<◌}
 use native.Mathlib.Decide.{ℕ_discrete}
-use native.Mathlib.Nat.{add-zero, mul-le-mul_right}
+use native.Mathlib.Nat.{mul-le-mul_right}
 use native.Mathlib.Omega.{arith}
 use lib.ListN.{length, get_or, set, replicate, take, drop, length-set, length-drop}
 use Rattle.std.proofs.lemmas.List.{take-append-drop}
 use lib.Seq.{get_or-set_same, get_or-set_other}
-use lib.Bits.{bit_xor, xor_comm, xor_zero_l, xor_zero_r, xor_shifted}
+use lib.Bits.{bit_xor, xor_assoc, xor_comm, xor_zero_l, xor_zero_r, xor_shifted}
 use Rattle.numbers.specs.Numbers.{long_at}
 use Rattle.crc.specs.Crc.{bit_steps, byte_step, crc_from}
 use Rattle.crc.specs.Eighths.{each_from, with_four, one_byte_on, first_sums, Ahead, joined_past, eighths_join}
 use Rattle.crc.proofs.Folds.{fold_next, fold_done}
-use Rattle.crc.proofs.Bits.{xor_assoc}
 use Rattle.crc.proofs.Laws.{crc_append, bits_xor, bits_shifted}
 use Rattle.crc.proofs.Joins.{bits_add, crc_xor}
 
@@ -153,18 +152,6 @@ turn_ahead {bytes} {sums} {put} {one} {two} {three} {four} {at} {eighth} few ins
           ∙ ap four_bytes_on (ap (λ (l : List ℕ). get_or l s 0) p ∙ each_at 8 (with_four bytes at eighth) sums 0 s (omega arith) (omega arith) in_list))
           ∙ four_on (get_or sums s 0) bytes i few (place_inside at s eighth 4 (length bytes) near inside);
     }
-
-pub ahead_none : (bytes sums : List ℕ) (at eighth : ℕ) → Ahead bytes at eighth 0 sums sums
-ahead_none bytes sums at eighth =
-    record {
-      long = refl;
-      each = λ s near in_list. ap (λ (k : ℕ). crc_from (get_or sums s 0) (drop k bytes)) (add-zero (at + s * eighth));
-    }
-
-pub ahead_all :
-    {bytes before after : List ℕ} {at eighth n m : ℕ} → n ≡ m → Ahead bytes at eighth n before after
-    → Ahead bytes at eighth m before after
-ahead_all {bytes} {before} {after} {at} {eighth} e a = subst (λ (k : ℕ). Ahead bytes at eighth k before after) e a
 
 -- n bytes of each eighth, and m more
 pub ahead_more :

@@ -8,6 +8,7 @@ use crate::byte_step;
 use crate::halves::Halves;
 
 // The next four bytes of each eighth are put into its sum.
+#[tactic(auto, using(crate::proofs::Streams::each_turn, crate::proofs::Streams::each_done))]
 fn put_in(sums: &mut [u32; 8], bytes: &[u8], at: usize, eighth: usize)
     requires { at + 7 * eighth + 4 ≤ length bytes.now }
     ensures { sums.new ≡ each_from (with_four bytes.now at eighth) sums.old 0 8 }
@@ -18,6 +19,7 @@ fn put_in(sums: &mut [u32; 8], bytes: &[u8], at: usize, eighth: usize)
 }
 
 // Each sum goes through one byte of what was put in.
+#[tactic(auto, using(crate::proofs::Streams::each_turn, crate::proofs::Streams::each_done))]
 fn step_all(sums: &mut [u32; 8])
     ensures { sums.new ≡ each_from one_byte_on sums.old 0 8 }
 {
@@ -53,10 +55,12 @@ pub struct Reached<'a> {
 
 impl<'a> Reached<'a> {
     // The sum goes on over parts of one size, as long as the rest begins with one. The bits of an eighth are as many as a part has bytes.
+    #[tactic(auto, using(crate::proofs::Streams::part_on))]
     pub fn over_parts<const PART: usize>(mut self, half: &Halves<PART>) -> Reached<'a>
         requires part_nonzero { 0 < PART }
         requires whole_turns { PART % 32 ≡ 0 }
-        ensures { crc_from result.sum result.rest.now ≡ crc_from self.entry.sum self.entry.rest.now }
+        ensures same { crc_from result.sum result.rest.now ≡ crc_from self.entry.sum self.entry.rest.now }
+        ensures no_part_left { length result.rest.now < PART }
     {
         while let Some((part, rest)) = self.rest.split_at_checked(PART) {
             let sum = half.join(eighths::<PART>(self.sum, part));

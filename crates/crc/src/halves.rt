@@ -1,10 +1,11 @@
 // The tables of the joins: what so many bits make of a number, half byte by half byte. Eight rows, one for each place of a half byte, the
-// lowest first, and in each an entry for each of the sixteen half bytes. Each is a constant that refers to its table: that is read where it lies, and takes no stack.
+// lowest first, and in each an entry for each of the sixteen half bytes.
 ghost use Rattle.std.specs.Prelude.{◌≡◌};
 ghost use Rattle.crc.specs.Crc.{bit_steps};
 ghost use Rattle.crc.specs.Join.{past_halves};
 ghost use Rattle.crc.specs.Eighths.{joined_past, eighths_join};
 
+// A table, lent with what is known of it. The constants below refer to theirs, so each is read where it lies and takes no stack.
 pub struct Halves<const BITS: usize> {
     rows: &'static [[u32; 16]; 8],
     ghost rule: { rows.now ≡ past_halves BITS },
@@ -12,6 +13,7 @@ pub struct Halves<const BITS: usize> {
 
 impl<const BITS: usize> Halves<BITS> {
     // What the bits make of a number: each of its half bytes picks its part.
+    #[tactic(auto, using(crate::proofs::Joins::walks))]
     pub fn past(&self, number: u32) -> u32
         ensures { result ≡ bit_steps BITS number }
     {

@@ -17,6 +17,7 @@ mod remainders;
 pub const START: u32 = 0xFFFF_FFFF;
 
 // Eight bits of the division at once: the low byte picks its remainder, and the rest moves down.
+#[tactic(auto, using(crate::proofs::Laws::table_step, crate::proofs::Tables::table_is))]
 fn byte_step(running: u32, byte: u8) -> u32
     ensures { result ≡ byte_step running byte }
 {

@@ -1,5 +1,5 @@
 -- The loop keeps that putting bytes into the rest gives what putting them into all gives (Streams).
-use Prim.Native.Nat.{◌-◌, ◌≤◌}
+use Prim.Native.Nat.{◌-◌}
 use mathlib.Core.Path.{◌≡◌}
 use Rattle.crc.specs.Eighths.{each_from, with_four}
 use Rattle.crc.proofs.eighths.put_in.Given as goal

@@ -1,5 +1,5 @@
 -- The loop keeps that stepping the rest gives what stepping all gives (Streams).
-use Prim.Native.Nat.{◌-◌, ◌≤◌}
+use Prim.Native.Nat.{◌-◌}
 use mathlib.Core.Path.{◌≡◌}
 use Rattle.crc.specs.Eighths.{each_from, one_byte_on}
 use Rattle.crc.proofs.eighths.step_all.Given as goal
