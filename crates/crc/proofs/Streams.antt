@@ -3,10 +3,10 @@ use mathlib.Core.Path.{◌≡◌, refl, sym, ap, ap₂, ◌∙◌}
 use mathlib.Core.List.{List, foldl, ◌++◌}
 use Prim.Native.Nat.{ℕ, zero, suc, ◌+◌, ◌-◌, ◌*◌, ◌/◌, ◌%◌, ◌≤◌, ◌<◌}
 use native.Mathlib.Decide.{ℕ_discrete}
-use native.Mathlib.Nat.{mul-le-mul_right}
+use native.Mathlib.Nat.{mul-le-mul_right, add-mul-mod_self_right}
 use native.Mathlib.Omega.{arith}
 use lib.ListN.{length, get_or, set, replicate, take, drop, length-set, length-drop}
-use Rattle.std.proofs.lemmas.List.{take-append-drop}
+use Rattle.std.proofs.lemmas.List.{take-append-drop, nil_from_length}
 use lib.Seq.{get_or-set_same, get_or-set_other}
 use lib.Bits.{bit_xor, xor_assoc, xor_comm, xor_zero_l, xor_zero_r, xor_shifted}
 use Rattle.numbers.specs.Numbers.{long_at}
@@ -265,3 +265,18 @@ part_on bytes {part} {after} {sums} {running} {sum} size whole front back long a
     ∙ sym (crc_append running part (drop size bytes))
     ∙ ap (λ (front_part : List ℕ). crc_from running (front_part ++ drop size bytes)) front
     ∙ ap (crc_from running) (take-append-drop size bytes)
+
+-- a part less leaves as much beyond whole parts
+pub parts_left : (size n m : ℕ) → m + size ≡ n → m % size ≡ n % size
+parts_left size n m e =
+    let all : m + 1 * size ≡ n = omega arith in
+    sym (add-mul-mod_self_right m 1 size) ∙ ap (λ (k : ℕ). k % size) all
+
+-- the bytes that fill no block, and then the blocks
+pub blocks_on :
+    (bytes odd blocks left : List ℕ) (running sum last : ℕ) → bytes ≡ odd ++ blocks → sum ≡ crc_from running odd → length left ≡ 0
+    → crc_from last left ≡ crc_from sum blocks → last ≡ crc_from running bytes
+unfolding crc_from
+blocks_on bytes odd blocks left running sum last e own none same =
+    sym (ap (crc_from last) (nil_from_length left none)) ∙ same ∙ ap (λ (n : ℕ). crc_from n blocks) own ∙ sym (crc_append running odd blocks)
+    ∙ ap (crc_from running) (sym e)

@@ -55,12 +55,12 @@ pub struct Reached<'a> {
 
 impl<'a> Reached<'a> {
     // The sum goes on over parts of one size, as long as the rest begins with one. The bits of an eighth are as many as a part has bytes.
-    #[tactic(auto, using(crate::proofs::Streams::part_on))]
+    #[tactic(auto, using(crate::proofs::Streams::part_on, crate::proofs::Streams::parts_left))]
     pub fn over_parts<const PART: usize>(mut self, half: &Halves<PART>) -> Reached<'a>
         requires part_nonzero { 0 < PART }
         requires whole_turns { PART % 32 ≡ 0 }
         ensures same { crc_from result.sum result.rest.now ≡ crc_from self.entry.sum self.entry.rest.now }
-        ensures no_part_left { length result.rest.now < PART }
+        ensures rest_length { length result.rest.now ≡ length self.entry.rest.now % PART }
     {
         while let Some((part, rest)) = self.rest.split_at_checked(PART) {
             let sum = half.join(eighths::<PART>(self.sum, part));

@@ -13,6 +13,9 @@ mod eighths;
 mod halves;
 mod remainders;
 
+// The bytes of a block.
+const BLOCK: usize = 1024;
+
 // Where a sum starts.
 pub const START: u32 = 0xFFFF_FFFF;
 
@@ -25,10 +28,9 @@ fn byte_step(running: u32, byte: u8) -> u32
     running / 256 ^ TABLE[low as usize]
 }
 
-// The sum goes on from a running value: what was summed so far is its only memory. Parts come first, the largest before the smaller, and
-// then what fills none, byte by byte.
+// The sum goes on over what doesn't fill a block: by parts, the larger first, and then byte by byte.
 #[tactic(auto, using(crate::proofs::Tables::rules_of_tables), unfolding(crate::specs::Crc::crc_from))]
-pub fn sum_from(running: u32, bytes: &[u8]) -> u32
+fn head(running: u32, bytes: &[u8]) -> u32
     ensures { result ≡ crc_from running bytes.now }
 {
     let all = Reached {
@@ -36,7 +38,6 @@ pub fn sum_from(running: u32, bytes: &[u8]) -> u32
         rest: bytes,
     };
     let last = all
-        .over_parts(&BITS_OF_128)
         .over_parts(&BITS_OF_64)
         .over_parts(&BITS_OF_32)
         .over_parts(&BITS_OF_16)
@@ -44,6 +45,19 @@ pub fn sum_from(running: u32, bytes: &[u8]) -> u32
     last.rest
         .iter()
         .fold(last.sum, |sum, &byte| byte_step(sum, byte))
+}
+
+// The sum goes on from a running value: what was summed so far is its only memory. What doesn't fill a block comes first.
+#[tactic(auto, using(crate::proofs::Tables::rules_of_tables, crate::proofs::Streams::blocks_on))]
+pub fn sum_from(running: u32, bytes: &[u8]) -> u32
+    ensures { result ≡ crc_from running bytes.now }
+{
+    let (odd, blocks) = bytes.split_at(bytes.len() % BLOCK);
+    let before = Reached {
+        sum: head(running, odd),
+        rest: blocks,
+    };
+    before.over_parts(&BITS_OF_128).sum
 }
 
 // The sum of a slice.
