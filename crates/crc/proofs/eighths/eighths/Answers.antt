@@ -1,4 +1,3 @@
--- Turn after turn, four bytes more of each eighth (Streams).
 use native.Mathlib.Omega.{arith}
 use Rattle.crc.proofs.Streams.{turn_ahead, ahead_more}
 use Rattle.crc.proofs.eighths.eighths.Goals as goal
