@@ -2,47 +2,41 @@
 use Prim.Native.Nat.{ℕ, zero, suc}
 use mathlib.Core.List.{List}
 use mathlib.Core.Path.{◌≡◌, refl, sym, ap, ◌∙◌}
+use Rattle.std.specs.Prelude.{Ok, Err}
 use Rattle.suffix.specs.declared.Parts.{Parts}
-use Rattle.suffix.specs.declared.Reading.{Reading}
-use Rattle.suffix.specs.declared.Reading.TheVariants.{Suffixed, Short, Signature, Length, Version, Sum}
-use Rattle.suffix.specs.declared.Writing.{Writing}
-use Rattle.suffix.specs.declared.Writing.TheVariants.{Wrote, NoRoom}
-use Rattle.suffix.specs.Suffix.{Left, left, write_of}
+use Rattle.suffix.specs.declared.Refusal.{Refusal}
+use Rattle.suffix.specs.declared.Refusal.TheVariants.{Short, Signature, Length, Version, Sum}
+use Rattle.suffix.specs.Suffix.{Reading, accepted, Writing, unwritten, Left, left, write_of}
 use Rattle.files.specs.declared.SuffixFound.{SuffixFound}
 use Rattle.files.specs.declared.Written.{Written}
 use Rattle.files.specs.Files.{refused_by, told_read, told_written, at_host, suffix_written}
 
--- every reading but the first is heard by its number
-pub heard : (r : Reading) → ((p : Parts) (n : ℕ) → r ≡ Suffixed p n → ⊥) → refused_by r ≡ told_read r
+-- every refusal is heard by its number
+pub heard : (r : Refusal) → refused_by r ≡ told_read (Err r)
 unfolding told_read
-heard (Suffixed p n) h = absurd (h p n refl)
-heard Short h = refl
-heard Signature h = refl
-heard Length h = refl
-heard Version h = refl
-heard Sum h = refl
+heard r = refl
 
 -- what was heard tells what was read
 unfoldable read_by : ℕ → Reading → Reading
 read_by zero found = found
-read_by (suc zero) found = Short
-read_by (suc (suc zero)) found = Signature
-read_by (suc (suc (suc zero))) found = Length
-read_by (suc (suc (suc (suc zero)))) found = Version
-read_by (suc (suc (suc (suc (suc n))))) found = Sum
+read_by (suc zero) found = Err Short
+read_by (suc (suc zero)) found = Err Signature
+read_by (suc (suc (suc zero))) found = Err Length
+read_by (suc (suc (suc (suc zero)))) found = Err Version
+read_by (suc (suc (suc (suc (suc n))))) found = Err Sum
 
-read_back : (r : Reading) → read_by (told_read r).refused (Suffixed (told_read r).parts (told_read r).length) ≡ r
+read_back : (r : Reading) → read_by (told_read r).refused (accepted (told_read r).parts (told_read r).length) ≡ r
 unfolding told_read read_by
-read_back (Suffixed p n) = refl
-read_back Short = refl
-read_back Signature = refl
-read_back Length = refl
-read_back Version = refl
-read_back Sum = refl
+read_back (Ok s) = refl
+read_back (Err Short) = refl
+read_back (Err Signature) = refl
+read_back (Err Length) = refl
+read_back (Err Version) = refl
+read_back (Err Sum) = refl
 
 pub read_tells : (r s : Reading) → told_read r ≡ told_read s → r ≡ s
 read_tells r s e =
-    sym (read_back r) ∙ ap (λ (f : SuffixFound). read_by f.refused (Suffixed f.parts f.length)) e ∙ read_back s
+    sym (read_back r) ∙ ap (λ (f : SuffixFound). read_by f.refused (accepted f.parts f.length)) e ∙ read_back s
 
 -- what a writing leaves is heard as it is told
 pub written :
@@ -54,13 +48,13 @@ written w v file p buffer after h e =
 
 -- and so for a writing
 unfoldable written_by : ℕ → ℕ → Writing
-written_by zero n = Wrote n
-written_by (suc k) n = NoRoom
+written_by zero n = Ok n
+written_by (suc k) n = unwritten
 
 written_back : (w : Writing) → written_by (told_written w).refused (told_written w).count ≡ w
 unfolding told_written written_by
-written_back (Wrote n) = refl
-written_back NoRoom = refl
+written_back (Ok n) = refl
+written_back (Err w) = refl
 
 pub written_tells : (w v : Writing) → told_written w ≡ told_written v → w ≡ v
 written_tells w v e = sym (written_back w) ∙ ap (λ (t : Written). written_by t.refused t.count) e ∙ written_back v

@@ -1,11 +1,8 @@
 -- The calls for files as a host hears them: numbers for refusals, and zeros where there is nothing else to say.
-use Rattle.std.specs.Prelude.{ℕ, List}
+use Rattle.std.specs.Prelude.{ℕ, List, Ok, Err}
 use Rattle.suffix.specs.declared.Parts.{Parts}
-use Rattle.suffix.specs.declared.Reading.{Reading}
-use Rattle.suffix.specs.declared.Reading.TheVariants.{Suffixed, Short, Signature, Length, Version, Sum}
-use Rattle.suffix.specs.declared.Writing.{Writing}
-use Rattle.suffix.specs.declared.Writing.TheVariants.{Wrote, NoRoom}
-use Rattle.suffix.specs.Suffix.{refusal_number, Left, write_of}
+use Rattle.suffix.specs.declared.Refusal.{Refusal}
+use Rattle.suffix.specs.Suffix.{Reading, refusal_number, Writing, unwritten_number, Left, write_of}
 use Rattle.bundle.specs.declared.Reading as BundleReading
 use Rattle.bundle.specs.declared.Writing as BundleWriting
 use Rattle.bundle.specs.Bundle as Bundle
@@ -14,22 +11,18 @@ use Rattle.files.specs.declared.SuffixFound.{SuffixFound}
 use Rattle.files.specs.declared.Written.{Written}
 
 -- a refusal by its number, with nothing read
-abbrev pub refused_by : Reading → SuffixFound
+abbrev pub refused_by : Refusal → SuffixFound
 refused_by r = record { parts = record { device = 0; product = 0; vendor = 0 }; refused = refusal_number r; length = 0 }
 
 -- a reading, as the host has it
 unfoldable pub told_read : Reading → SuffixFound
-told_read (Suffixed p n) = record { parts = p; refused = 0; length = n }
-told_read Short = refused_by Short
-told_read Signature = refused_by Signature
-told_read Length = refused_by Length
-told_read Version = refused_by Version
-told_read Sum = refused_by Sum
+told_read (Ok s) = record { parts = s.parts; refused = 0; length = s.length }
+told_read (Err r) = refused_by r
 
 -- a writing: too little room is 1, the only refusal
 unfoldable pub told_written : Writing → Written
-told_written (Wrote n) = record { refused = 0; count = n }
-told_written NoRoom = record { refused = 1; count = 0 }
+told_written (Ok n) = record { refused = 0; count = n }
+told_written (Err w) = record { refused = unwritten_number w; count = 0 }
 
 -- all that a writing leaves at the host
 pub record AtHost : Type 0 where

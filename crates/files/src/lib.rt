@@ -9,11 +9,11 @@ ghost use Rattle.bundle.specs.Bundle as Bundle;
 ghost use Rattle.files.specs.Files.{told_read, told_bundle, at_host, suffix_written, bundle_written};
 
 use bundle::Part;
-use suffix::{Parts, Reading, Writing};
+use suffix::{Parts, Suffixed};
 
 // A suffix that was read, with the bytes before it; or why it was refused, and zeros.
 #[repr(C)]
-#[derive(Clone, Copy)]
+#[derive(Clone, Copy, Default)]
 pub struct SuffixFound {
     pub parts: Parts,
     pub refused: u16,
@@ -36,41 +36,33 @@ pub struct BundleFound {
     pub count: usize,
 }
 
+#[tactic(auto, unfolding(crate::specs::Files::told_read))]
 #[unsafe(no_mangle)]
 pub extern "C" fn mullirim_suffix_read(file: &[u8]) -> SuffixFound
     ensures { result ≡ told_read (read_of file.now) }
 {
-    let reading = suffix::read(file);
-    match reading {
-        Reading::Suffixed { parts, length } => SuffixFound {
-            parts: parts,
-            refused: 0,
-            length: length,
+    match suffix::read(file) {
+        Ok(Suffixed { parts, length }) => SuffixFound {
+            parts,
+            length,
+            ..SuffixFound::default()
         },
-        _ => SuffixFound {
-            parts: Parts {
-                device: 0,
-                product: 0,
-                vendor: 0,
-            },
-            refused: suffix::number(reading),
-            length: 0,
+        Err(refusal) => SuffixFound {
+            refused: u16::from(refusal),
+            ..SuffixFound::default()
         },
     }
 }
 
+#[tactic(auto, unfolding(crate::specs::Files::told_written, crate::specs::Files::suffix_written))]
 #[unsafe(no_mangle)]
 pub extern "C" fn mullirim_suffix_write(file: &[u8], parts: Parts, buffer: &mut [u8]) -> Written
     ensures { at_host result buffer.new ≡ suffix_written file.now parts buffer.old }
 {
-    let writing = suffix::write(file, parts, buffer);
-    match writing {
-        Writing::Wrote { count } => Written {
-            refused: 0,
-            count: count,
-        },
-        Writing::NoRoom => Written {
-            refused: 1,
+    match suffix::write(file, parts, buffer) {
+        Ok(count) => Written { refused: 0, count },
+        Err(no_room) => Written {
+            refused: u32::from(no_room),
             count: 0,
         },
     }

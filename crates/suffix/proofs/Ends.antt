@@ -1,22 +1,21 @@
 -- A file and 16 bytes behind it: what each test of the reader tells of them. Assumes nothing.
 use Prim.Native.Nat.{ℕ, ◌+◌, ◌-◌, ◌*◌, ◌^◌, ◌<◌}
-use mathlib.Core.Bool.{Bool, true, false, ◌&&◌}
+use mathlib.Core.Bool.{true, false}
 use mathlib.Core.List.{List, [], ◌∷◌, ◌++◌, append_assoc}
 use mathlib.Core.Path.{◌≡◌, refl, sym, ap, ap₂, ◌∙◌, subst}
 use native.Mathlib.Omega.{arith}
 use borrow.Author.Tests.{le-ltb}
-use lib.Dec.{eqb}
 use lib.ListN.{length, get_or, take, drop, length-append}
-use lib.Seq.{get_or-append-add, take-append-add, drop-append-add}
-use Rattle.numbers.specs.Numbers.{word_at, long_at, bytes2, bytes4}
-use Rattle.numbers.proofs.Laws.{four_bytes, word_on, long_on, of_two_bytes, of_four_bytes}
+use lib.Seq.{get_or-append-add, take-append-add, take-append_seam, drop-append-add, drop-append_seam}
+use Rattle.numbers.specs.Numbers.{long_at, bytes2, bytes4}
+use Rattle.numbers.proofs.Laws.{four_bytes, of_two_bytes, of_four_bytes}
 use Rattle.crc.specs.Crc.{crc_of}
 use Rattle.crc.proofs.Laws.{crc_of_fits}
-use Rattle.suffix.specs.declared.Parts.{Parts}
-use Rattle.suffix.specs.declared.Reading.{Reading}
-use Rattle.suffix.specs.declared.Reading.TheVariants.{Suffixed, Short, Signature, Length, Version, Sum}
-use Rattle.suffix.specs.Suffix.{suffix_size, dfu_version, front_of, sum_bytes, suffixed}
-use Rattle.suffix.specs.Suffix.{signed_at, sized_at, versioned_at, summed_at, parts_at, judged, read_of, refusal_number}
+use Rattle.std.specs.Prelude.{Err}
+use Rattle.suffix.specs.declared.Refusal.{Refusal}
+use Rattle.suffix.specs.declared.Refusal.TheVariants.{Short, Signature, Length, Version, Sum}
+use Rattle.suffix.specs.Suffix.{suffix_size, dfu_version, front_of, sum_bytes, suffixed, image_of, suffix_of}
+use Rattle.suffix.specs.Suffix.{signed, sized, versioned, summed, parts_of, Reading, accepted, judged, read_of}
 use Rattle.pieces.specs.Claims.{Bytes}
 use Rattle.suffix.specs.Claims.{field, LongEnough, Signed, Sized, Versioned, Summed, FileWith, Says}
 use Rattle.pieces.proofs.Lists.{bytes_take}
@@ -42,70 +41,44 @@ module _ (file : List ℕ) (x0 x1 x2 x3 x4 x5 x6 x7 x8 x9 x10 x11 x12 x13 x14 x1
   field_is from n =
       ap (λ (at : ℕ). take n (drop (at + from) whole)) place ∙ ap (take n) (drop-append-add file end from)
 
-  -- what the reader's tests come to
-  abbrev pub signed : Bool
-  signed = eqb x8 0x55 && eqb x9 0x46 && eqb x10 0x44
-
-  abbrev pub sized : Bool
-  sized = eqb x11 suffix_size
-
-  abbrev pub versioned : Bool
-  versioned = eqb (x6 + x7 * 256) dfu_version
-
-  abbrev pub summed : Bool
-  summed = eqb (x12 + x13 * 256 + (x14 + x15 * 256) * 65536) (crc_of (file ++ front))
-
-  abbrev pub parts : Parts
-  parts = record { device = x0 + x1 * 256; product = x2 + x3 * 256; vendor = x4 + x5 * 256 }
-
-  byte_is : (k : ℕ) → get_or whole (length file + k) 0 ≡ get_or end k 0
-  byte_is k = get_or-append-add file end k 0
-
-  word_is : (k : ℕ) → word_at whole (length file + k) ≡ word_at end k
-  word_is k = word_on file end (length file + k) k refl
-
-  signed_is : signed_at whole (length file) ≡ signed
-  signed_is = rw (byte_is 8, byte_is 9, byte_is 10)
-
-  sized_is : sized_at whole (length file) ≡ sized
-  sized_is = rw (byte_is 11)
-
-  versioned_is : versioned_at whole (length file) ≡ versioned
-  versioned_is = ap (λ (n : ℕ). eqb n dfu_version) (word_is 6)
-
-  summed_is : summed_at whole (length file) ≡ summed
-  summed_is =
-      ap₂ (λ (n : ℕ) (l : List ℕ). eqb n (crc_of l)) (long_on file end (length file + 12) 12 refl) (take-append-add file end 12)
-
-  parts_is : parts_at whole (length file) ≡ parts
-  parts_is = rw (word_on file end (length file) 0 (omega arith), word_is 2, word_is 4)
-
-  read_is : read_of whole ≡ judged signed sized versioned summed (Suffixed parts (length file))
-  unfolding read_of
-  read_is = rw (le-ltb (length whole) suffix_size long_enough, place, signed_is, sized_is, versioned_is, summed_is, parts_is)
-
-  at_signature : signed ≡ false → read_of whole ≡ Signature
-  at_signature s = rw (read_is, s)
-
-  at_length : signed ≡ true → sized ≡ false → read_of whole ≡ Length
-  at_length s z = rw (read_is, s, z)
-
-  at_version : signed ≡ true → sized ≡ true → versioned ≡ false → read_of whole ≡ Version
-  at_version s z v = rw (read_is, s, z, v)
-
-  at_sum : signed ≡ true → sized ≡ true → versioned ≡ true → summed ≡ false → read_of whole ≡ Sum
-  at_sum s z v c = rw (read_is, s, z, v, c)
-
-  pub at_suffixed : signed ≡ true → sized ≡ true → versioned ≡ true → summed ≡ true → read_of whole ≡ Suffixed parts (length file)
-  at_suffixed s z v c = rw (read_is, s, z, v, c)
-
   pub behind_front : take (length file + 12) whole ≡ file ++ front
   behind_front = take-append-add file end 12
+
+  -- what the reader's tests come to
+  image_is : image_of whole ≡ file
+  image_is = ap (λ (at : ℕ). take at whole) place ∙ take-append_seam file end
+
+  suffix_is : suffix_of whole ≡ end
+  suffix_is = ap (λ (at : ℕ). drop at whole) place ∙ drop-append_seam file end
+
+  read_is :
+      read_of whole
+      ≡ judged (signed end) (sized end) (versioned end) (summed end (file ++ front)) (accepted (parts_of end) (length file))
+  unfolding read_of
+  read_is = rw (le-ltb (length whole) suffix_size long_enough, image_is, suffix_is, behind_front)
+
+  at_signature : signed end ≡ false → read_of whole ≡ Err Signature
+  at_signature s = rw (read_is, s)
+
+  at_length : signed end ≡ true → sized end ≡ false → read_of whole ≡ Err Length
+  at_length s z = rw (read_is, s, z)
+
+  at_version : signed end ≡ true → sized end ≡ true → versioned end ≡ false → read_of whole ≡ Err Version
+  at_version s z v = rw (read_is, s, z, v)
+
+  at_sum :
+      signed end ≡ true → sized end ≡ true → versioned end ≡ true → summed end (file ++ front) ≡ false → read_of whole ≡ Err Sum
+  at_sum s z v c = rw (read_is, s, z, v, c)
+
+  pub at_suffixed :
+      signed end ≡ true → sized end ≡ true → versioned end ≡ true → summed end (file ++ front) ≡ true
+      → read_of whole ≡ accepted (parts_of end) (length file)
+  at_suffixed s z v c = rw (read_is, s, z, v, c)
 
   -- what each test tells, where all are bytes
   module _ (b : Bytes whole) where
     byte : (k : ℕ) → get_or end k 0 < 256
-    byte k = subst (λ (n : ℕ). n < 256) (byte_is k) (b (length file + k))
+    byte k = subst (λ (n : ℕ). n < 256) (get_or-append-add file end k 0) (b (length file + k))
 
     sum_fits : crc_of (file ++ front) < 2 ^ 32
     sum_fits = crc_of_fits (file ++ front) (subst Bytes behind_front (bytes_take whole (length file + 12) b))
@@ -114,20 +87,20 @@ module _ (file : List ℕ) (x0 x1 x2 x3 x4 x5 x6 x7 x8 x9 x10 x11 x12 x13 x14 x1
     stands : (from n : ℕ) (bytes : List ℕ) → field whole from n ≡ bytes → (k : ℕ) → get_or (take n (drop from end)) k 0 ≡ get_or bytes k 0
     stands from n bytes h k = ap (λ (l : List ℕ). get_or l k 0) (sym (field_is from n) ∙ h)
 
-    pub signed_tells : Tells signed (Signed whole)
+    pub signed_tells : Tells (signed end) (Signed whole)
     signed_tells =
-        alike signed (((x8 ≡ 0x55) × (x9 ≡ 0x46)) × (x10 ≡ 0x44)) (Signed whole)
+        alike (signed end) (((x8 ≡ 0x55) × (x9 ≡ 0x46)) × (x10 ≡ 0x44)) (Signed whole)
         (λ e. field_is 8 3 ∙ rw (e.0.0, e.0.1, e.1))
         (λ h. ((stands 8 3 _ h 0, stands 8 3 _ h 1), stands 8 3 _ h 2))
         (both _ _ _ _ (both _ _ _ _ (equal x8 0x55) (equal x9 0x46)) (equal x10 0x44))
 
-    pub sized_tells : Tells sized (Sized whole)
+    pub sized_tells : Tells (sized end) (Sized whole)
     sized_tells =
-        alike sized (x11 ≡ suffix_size) (Sized whole) (λ e. field_is 11 1 ∙ rw e) (λ h. stands 11 1 _ h 0) (equal x11 suffix_size)
+        alike (sized end) (x11 ≡ suffix_size) (Sized whole) (λ e. field_is 11 1 ∙ rw e) (λ h. stands 11 1 _ h 0) (equal x11 suffix_size)
 
-    pub versioned_tells : Tells versioned (Versioned whole)
+    pub versioned_tells : Tells (versioned end) (Versioned whole)
     versioned_tells =
-        alike versioned (x6 + x7 * 256 ≡ dfu_version) (Versioned whole)
+        alike (versioned end) (x6 + x7 * 256 ≡ dfu_version) (Versioned whole)
         (λ e. field_is 6 2 ∙ sym (of_two_bytes x6 x7 (byte 6) (byte 7)) ∙ ap (λ (n : ℕ). bytes2 n) e)
         (λ h. ap₂ (λ (x y : ℕ). x + y * 256) (stands 6 2 _ h 0) (stands 6 2 _ h 1))
         (equal (x6 + x7 * 256) dfu_version)
@@ -137,9 +110,9 @@ module _ (file : List ℕ) (x0 x1 x2 x3 x4 x5 x6 x7 x8 x9 x10 x11 x12 x13 x14 x1
         let at : length whole - 4 ≡ length file + 12 = omega (arith, length-append file end) in
         ap (λ (n : ℕ). take n whole) at ∙ behind_front
 
-    pub summed_tells : Tells summed (Summed whole)
+    pub summed_tells : Tells (summed end (file ++ front)) (Summed whole)
     summed_tells =
-        alike summed (x12 + x13 * 256 + (x14 + x15 * 256) * 65536 ≡ crc_of (file ++ front)) (Summed whole)
+        alike (summed end (file ++ front)) (x12 + x13 * 256 + (x14 + x15 * 256) * 65536 ≡ crc_of (file ++ front)) (Summed whole)
         (λ e.
         field_is 12 4
         ∙ sym (of_four_bytes x12 x13 x14 x15 (byte 12) (byte 13) (byte 14) (byte 15))
@@ -151,7 +124,7 @@ module _ (file : List ℕ) (x0 x1 x2 x3 x4 x5 x6 x7 x8 x9 x10 x11 x12 x13 x14 x1
 
     -- bytes that meet all are a file with its suffix
     module _ (g : Signed whole) (z : Sized whole) (v : Versioned whole) (c : Summed whole) where
-      front_is : front ≡ front_of parts
+      front_is : front ≡ front_of (parts_of end)
       unfolding front_of
       front_is =
           ap₂ ◌++◌
@@ -167,7 +140,7 @@ module _ (file : List ℕ) (x0 x1 x2 x3 x4 x5 x6 x7 x8 x9 x10 x11 x12 x13 x14 x1
       unfolding sum_bytes
       sum_is = sym (field_is 12 4) ∙ c ∙ ap (λ (l : List ℕ). bytes4 (crc_of l)) covered
 
-      pub file_with : FileWith whole parts (length file)
+      pub file_with : FileWith whole (parts_of end) (length file)
       unfolding suffixed
       file_with =
           record {
@@ -188,36 +161,30 @@ module _ (file : List ℕ) (x0 x1 x2 x3 x4 x5 x6 x7 x8 x9 x10 x11 x12 x13 x14 x1
 
     pub says_here : Says (read_of whole) whole
     says_here =
-        either_way signed
-        (λ s. either_way sized
-        (λ z. either_way versioned
-        (λ v. either_way summed
+        either_way (signed end)
+        (λ s. either_way (sized end)
+        (λ z. either_way (versioned end)
+        (λ v. either_way (summed end (file ++ front))
         (λ c. stays _ (at_suffixed s z v c) (file_with (signs s) (sizes z) (versions v) (summed_tells.yes c)))
-        (λ c. stays Sum (at_sum s z v c) (long_enough, signs s, sizes z, versions v, tells_no _ _ summed_tells c)))
-        (λ v. stays Version (at_version s z v) (long_enough, signs s, sizes z, tells_no _ _ versioned_tells v)))
-        (λ z. stays Length (at_length s z) (long_enough, signs s, tells_no _ _ sized_tells z)))
-        (λ s. stays Signature (at_signature s) (long_enough, tells_no _ _ signed_tells s))
+        (λ c. stays (Err Sum) (at_sum s z v c) (long_enough, signs s, sizes z, versions v, tells_no _ _ summed_tells c)))
+        (λ v. stays (Err Version) (at_version s z v) (long_enough, signs s, sizes z, tells_no _ _ versioned_tells v)))
+        (λ z. stays (Err Length) (at_length s z) (long_enough, signs s, tells_no _ _ sized_tells z)))
+        (λ s. stays (Err Signature) (at_signature s) (long_enough, tells_no _ _ signed_tells s))
       where
-        signs : signed ≡ true → Signed whole
+        signs : signed end ≡ true → Signed whole
         signs = signed_tells.yes
 
-        sizes : sized ≡ true → Sized whole
+        sizes : sized end ≡ true → Sized whole
         sizes = sized_tells.yes
 
-        versions : versioned ≡ true → Versioned whole
+        versions : versioned end ≡ true → Versioned whole
         versions = versioned_tells.yes
 
     -- and a refusal that is true is given
-    pub refused_here : (r : Reading) → (refusal_number r ≡ 0 → ⊥) → Says r whole → read_of whole ≡ r
-    refused_here (Suffixed p n) refusal h = absurd (refusal refl)
-    refused_here Short refusal h = absurd (h long_enough)
-    refused_here Signature refusal h = at_signature (isnt _ _ signed_tells h.1)
-    refused_here Length refusal h = at_length (signed_tells.is h.1) (isnt _ _ sized_tells h.2)
-    refused_here Version refusal h =
-        at_version (signed_tells.is h.1) (sized_tells.is h.2) (isnt _ _ versioned_tells h.3)
-    refused_here Sum refusal h =
-        at_sum
-        (signed_tells.is h.1)
-        (sized_tells.is h.2)
-        (versioned_tells.is h.3)
-        (isnt _ _ summed_tells h.4)
+    pub refused_here : (r : Refusal) → Says (Err r) whole → read_of whole ≡ Err r
+    refused_here Short h = absurd (h long_enough)
+    refused_here Signature h = at_signature (isnt _ _ signed_tells h.1)
+    refused_here Length h = at_length (signed_tells.is h.1) (isnt _ _ sized_tells h.2)
+    refused_here Version h = at_version (signed_tells.is h.1) (sized_tells.is h.2) (isnt _ _ versioned_tells h.3)
+    refused_here Sum h =
+        at_sum (signed_tells.is h.1) (sized_tells.is h.2) (versioned_tells.is h.3) (isnt _ _ summed_tells h.4)

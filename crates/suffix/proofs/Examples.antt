@@ -6,8 +6,9 @@ use mathlib.Core.Path.{◌≡◌, refl}
 use lib.ListN.{take, set}
 use Rattle.crc.specs.Crc.{bit_step, bit_steps, byte_step, crc_from, crc_of}
 use Rattle.suffix.specs.declared.Parts.{Parts}
-use Rattle.suffix.specs.declared.Reading.TheVariants.{Suffixed, Short, Signature, Length, Version, Sum}
-use Rattle.suffix.specs.Suffix.{front_of, sum_bytes, suffixed, read_of}
+use Rattle.std.specs.Prelude.{Err}
+use Rattle.suffix.specs.declared.Refusal.TheVariants.{Short, Signature, Length, Version, Sum}
+use Rattle.suffix.specs.Suffix.{front_of, sum_bytes, suffixed, accepted, read_of}
 
 -- the ASCII bytes 123456789
 abbrev pub digits : List ℕ
@@ -25,16 +26,16 @@ pub written_example : suffixed digits parts ≡ file
 unfolding suffixed front_of sum_bytes crc_of crc_from byte_step bit_steps bit_step
 written_example = refl
 
-pub read_example : read_of file ≡ Suffixed parts 9
+pub read_example : read_of file ≡ accepted parts 9
 unfolding read_of crc_of crc_from byte_step bit_steps bit_step
 read_example = refl
 
 pub record Refusals : Type 0 where
-  short : read_of (take 15 file) ≡ Short
-  signature : read_of (set file 18 0x47) ≡ Signature
-  length_byte : read_of (set file 20 0x11) ≡ Length
-  version : read_of (set file 15 0x01) ≡ Version
-  sum : read_of (set file 0 50) ≡ Sum
+  short : read_of (take 15 file) ≡ Err Short
+  signature : read_of (set file 18 0x47) ≡ Err Signature
+  length_byte : read_of (set file 20 0x11) ≡ Err Length
+  version : read_of (set file 15 0x01) ≡ Err Version
+  sum : read_of (set file 0 50) ≡ Err Sum
 
 pub refusal_examples : Refusals
 unfolding read_of crc_of crc_from byte_step bit_steps bit_step

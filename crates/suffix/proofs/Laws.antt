@@ -7,9 +7,10 @@ use lib.ListN.{length, drop, length-append}
 use borrow.Author.Tests.{lt-ltb, le-ltb}
 use Rattle.pieces.specs.Pieces.{Laid}
 use Rattle.pieces.proofs.Laws.{laid_more, laid_front}
+use Rattle.crc.proofs.Laws.{crc_of-append}
 use Rattle.suffix.specs.declared.Parts.{Parts}
-use Rattle.suffix.specs.declared.Writing.TheVariants.{Wrote, NoRoom}
-use Rattle.suffix.specs.Suffix.{front_size, front_of, sum_bytes, suffixed, size_with, laid, left, write_of}
+use Rattle.std.specs.Prelude.{Ok}
+use Rattle.suffix.specs.Suffix.{front_size, front_of, sum_bytes, suffixed, size_with, laid, unwritten, left, write_of}
 
 -- the file, the front and the sum, one behind the other
 pub laid_by :
@@ -32,12 +33,15 @@ laid_by file p front sum b b1 b2 b3 n1 n2 n3 f s one two three =
 
 -- with too little room nothing is laid
 pub no_room :
-    (file : List ℕ) (p : Parts) (buffer : List ℕ) → length buffer < size_with file → left NoRoom buffer ≡ write_of file p buffer
+    (file : List ℕ) (p : Parts) (buffer : List ℕ) → length buffer < size_with file → left unwritten buffer ≡ write_of file p buffer
 unfolding write_of
 no_room file p buffer h = rw (lt-ltb (length buffer) (size_with file) h)
 
 pub room :
     (file : List ℕ) (p : Parts) (buffer after : List ℕ) → size_with file ≤ length buffer → after ≡ laid file p buffer
-    → left (Wrote (size_with file)) after ≡ write_of file p buffer
+    → left (Ok (size_with file)) after ≡ write_of file p buffer
 unfolding write_of
 room file p buffer after h e = rw (le-ltb (length buffer) (size_with file) h, e)
+
+-- the sum of a file goes on over what stands behind it
+pub ruleset goes_on = (crc_of-append)

@@ -13,12 +13,11 @@ use Rattle.numbers.proofs.Laws.{two_bytes, four_bytes}
 use Rattle.crc.specs.Crc.{crc_of}
 use Rattle.crc.proofs.Laws.{crc_of_fits}
 use Rattle.suffix.specs.declared.Parts.{Parts}
-use Rattle.suffix.specs.declared.Reading.{Reading}
-use Rattle.suffix.specs.declared.Reading.TheVariants.{Suffixed, Short, Signature, Length, Version, Sum}
-use Rattle.suffix.specs.declared.Writing.{Writing}
-use Rattle.suffix.specs.declared.Writing.TheVariants.{Wrote, NoRoom}
-use Rattle.suffix.specs.Suffix.{suffix_size, dfu_version, front_of, sum_bytes, suffixed, read_of, refusal_number}
-use Rattle.suffix.specs.Suffix.{size_with, laid, Left, left, write_of}
+use Rattle.std.specs.Prelude.{Ok, Err}
+use Rattle.suffix.specs.declared.Refusal.{Refusal}
+use Rattle.suffix.specs.declared.Refusal.TheVariants.{Short, Signature, Length, Version, Sum}
+use Rattle.suffix.specs.Suffix.{suffix_size, dfu_version, front_of, sum_bytes, suffixed, Reading, accepted, read_of}
+use Rattle.suffix.specs.Suffix.{size_with, laid, Writing, Left, left, write_of}
 use Rattle.pieces.specs.Claims.{Bytes}
 use Rattle.suffix.specs.Claims.{Fits, LongEnough, FileWith, Says, AcceptsExactly, OneReader, WritesExactly, OneWriter}
 use Rattle.suffix.specs.Claims.{ReadWritten, WriteRead, OneSuffix, OneOutcome}
@@ -28,7 +27,7 @@ use Rattle.suffix.proofs.Ends.{whole, at_suffixed, says_here, refused_here}
 
 -- ---- any bytes: too few, or a file and 16 bytes behind it
 
-short_is : (bytes : List ℕ) → length bytes < suffix_size → read_of bytes ≡ Short
+short_is : (bytes : List ℕ) → length bytes < suffix_size → read_of bytes ≡ Err Short
 unfolding read_of
 short_is bytes h = rw (lt-ltb (length bytes) suffix_size h)
 
@@ -52,23 +51,21 @@ says bytes b =
     ]
 
 -- of too few bytes nothing but that is true
-too_few :
-    (bytes : List ℕ) → length bytes < suffix_size → (r : Reading) → (refusal_number r ≡ 0 → ⊥) → Says r bytes → read_of bytes ≡ r
-too_few bytes l (Suffixed p n) refusal h = absurd (refusal refl)
-too_few bytes l Short refusal h = short_is bytes l
-too_few bytes l Signature refusal h = absurd (not-le_of_lt l h.0)
-too_few bytes l Length refusal h = absurd (not-le_of_lt l h.0)
-too_few bytes l Version refusal h = absurd (not-le_of_lt l h.0)
-too_few bytes l Sum refusal h = absurd (not-le_of_lt l h.0)
+too_few : (bytes : List ℕ) → length bytes < suffix_size → (r : Refusal) → Says (Err r) bytes → read_of bytes ≡ Err r
+too_few bytes l Short h = short_is bytes l
+too_few bytes l Signature h = absurd (not-le_of_lt l h.0)
+too_few bytes l Length h = absurd (not-le_of_lt l h.0)
+too_few bytes l Version h = absurd (not-le_of_lt l h.0)
+too_few bytes l Sum h = absurd (not-le_of_lt l h.0)
 
-refused : (bytes : List ℕ) → Bytes bytes → (r : Reading) → (refusal_number r ≡ 0 → ⊥) → Says r bytes → read_of bytes ≡ r
-refused bytes b r refusal h =
+refused : (bytes : List ℕ) → Bytes bytes → (r : Refusal) → Says (Err r) bytes → read_of bytes ≡ Err r
+refused bytes b r h =
     elim (dec_lt (length bytes) suffix_size) [
-      | yes l ↦ too_few bytes l r refusal h
+      | yes l ↦ too_few bytes l r h
       | no l ↦
-          ending (λ (xs : List ℕ). Bytes xs → Says r xs → read_of xs ≡ r)
+          ending (λ (xs : List ℕ). Bytes xs → Says (Err r) xs → read_of xs ≡ Err r)
           (λ file x0 x1 x2 x3 x4 x5 x6 x7 x8 x9 x10 x11 x12 x13 x14 x15 c g.
-          refused_here file x0 x1 x2 x3 x4 x5 x6 x7 x8 x9 x10 x11 x12 x13 x14 x15 c r refusal g)
+          refused_here file x0 x1 x2 x3 x4 x5 x6 x7 x8 x9 x10 x11 x12 x13 x14 x15 c r g)
           bytes (omega arith) b h
     ]
 
@@ -118,7 +115,7 @@ front_bytes p =
     (number_bytes dfu_version))
     mark_bytes
 
-pub read-suffixed : (file : List ℕ) (p : Parts) → Bytes file → Fits p → read_of (suffixed file p) ≡ Suffixed p (length file)
+pub read-suffixed : (file : List ℕ) (p : Parts) → Bytes file → Fits p → read_of (suffixed file p) ≡ accepted p (length file)
 unfolding front_of sum_bytes suffixed
 read-suffixed file p b f =
     let c : ℕ = crc_of (file ++ front_of p) in
@@ -130,14 +127,10 @@ read-suffixed file p b f =
 -- ---- the theorems
 
 given : (bytes : List ℕ) → Bytes bytes → (r : Reading) → Says r bytes → read_of bytes ≡ r
-given bytes b (Suffixed p n) f =
-    let lent : Bytes f.file = subst Bytes (file_of bytes p n f) (bytes_take bytes n b) in
-    ap read_of f.made ∙ read-suffixed f.file p lent f.fits ∙ ap (Suffixed p) f.long
-given bytes b Short h = refused bytes b Short (λ e. omega arith) h
-given bytes b Signature h = refused bytes b Signature (λ e. omega arith) h
-given bytes b Length h = refused bytes b Length (λ e. omega arith) h
-given bytes b Version h = refused bytes b Version (λ e. omega arith) h
-given bytes b Sum h = refused bytes b Sum (λ e. omega arith) h
+given bytes b (Ok s) f =
+    let lent : Bytes f.file = subst Bytes (file_of bytes s.parts s.length f) (bytes_take bytes s.length b) in
+    ap read_of f.made ∙ read-suffixed f.file s.parts lent f.fits ∙ ap (accepted s.parts) f.long
+given bytes b (Err r) h = refused bytes b r h
 
 pub accepts_exactly : AcceptsExactly read_of
 accepts_exactly bytes b r =
@@ -164,17 +157,17 @@ one_writer write exactly file p buffer =
 
 -- one more than was written, or nothing at all
 abbrev counted : Writing → ℕ
-counted (Wrote n) = suc n
-counted NoRoom = 0
+counted (Ok n) = suc n
+counted (Err e) = 0
 
 written_is :
-    (file : List ℕ) (p : Parts) (buffer : List ℕ) (n : ℕ) → (write_of file p buffer).result ≡ Wrote n
+    (file : List ℕ) (p : Parts) (buffer : List ℕ) (n : ℕ) → (write_of file p buffer).result ≡ Ok n
     → (n ≡ size_with file) × ((write_of file p buffer).buffer ≡ laid file p buffer)
 written_is file p buffer n e =
     elim (dec_lt (length buffer) (size_with file)) [
       | yes l ↦ let none : 0 ≡ suc n = ap counted (ap (λ (w : Left). w.result) (no_room file p buffer l) ∙ e) in absurd (omega arith)
       | no l ↦
-          let w : left (Wrote (size_with file)) (laid file p buffer) ≡ write_of file p buffer =
+          let w : left (Ok (size_with file)) (laid file p buffer) ≡ write_of file p buffer =
           room file p buffer (laid file p buffer) (omega arith) refl
           in
           let same : suc (size_with file) ≡ suc n = ap counted (ap (λ (l : Left). l.result) w ∙ e) in
@@ -195,16 +188,16 @@ read_written file p buffer n b f e =
 pub write_read : WriteRead read_of write_of
 unfolding laid
 write_read bytes p n buffer b e h =
-    let f : FileWith bytes p n = (accepts_exactly bytes b (Suffixed p n)).then e in
+    let f : FileWith bytes p n = (accepts_exactly bytes b (accepted p n)).then e in
     let long : length bytes ≡ size_with f.file = ap length f.made ∙ length-suffixed f.file p in
     ap (λ (l : List ℕ). write_of l p buffer) (file_of bytes p n f)
     ∙ sym (room f.file p buffer (laid f.file p buffer) (omega arith) refl)
-    ∙ ap₂ (λ (k : ℕ) (l : List ℕ). left (Wrote k) (l ++ drop k buffer)) (sym long) (sym f.made)
+    ∙ ap₂ (λ (k : ℕ) (l : List ℕ). left (Ok k) (l ++ drop k buffer)) (sym long) (sym f.made)
 
 pub one_suffix : OneSuffix read_of
 one_suffix bytes other p n m b c e f h =
-    let s : FileWith bytes p n = (accepts_exactly bytes b (Suffixed p n)).then e in
-    let t : FileWith other p m = (accepts_exactly other c (Suffixed p m)).then f in
+    let s : FileWith bytes p n = (accepts_exactly bytes b (accepted p n)).then e in
+    let t : FileWith other p m = (accepts_exactly other c (accepted p m)).then f in
     s.made
     ∙ ap (λ (l : List ℕ). suffixed l p) (sym (file_of bytes p n s) ∙ h ∙ file_of other p m t)
     ∙ sym t.made

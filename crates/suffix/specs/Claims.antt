@@ -1,13 +1,11 @@
 -- What is promised of the suffix, as claims about any reader and any writer.
-use Rattle.std.specs.Prelude.{ℕ, ◌+◌, ◌-◌, ◌^◌, ◌≤◌, ◌<◌, List, [], ◌∷◌, ◌++◌, ◌≡◌, length, take, drop}
+use Rattle.std.specs.Prelude.{ℕ, ◌+◌, ◌-◌, ◌^◌, ◌≤◌, ◌<◌, List, [], ◌∷◌, ◌++◌, ◌≡◌, length, take, drop, Ok, Err}
 use Rattle.numbers.specs.Numbers.{bytes4}
 use Rattle.crc.specs.Crc.{crc_of}
 use Rattle.pieces.specs.Claims.{Bytes, Exactly}
 use Rattle.suffix.specs.declared.Parts.{Parts}
-use Rattle.suffix.specs.declared.Reading.{Reading}
-use Rattle.suffix.specs.declared.Reading.TheVariants.{Suffixed, Short, Signature, Length, Version, Sum}
-use Rattle.suffix.specs.declared.Writing.TheVariants.{Wrote, NoRoom}
-use Rattle.suffix.specs.Suffix.{suffixed, read_of, Left, left, write_of}
+use Rattle.suffix.specs.declared.Refusal.TheVariants.{Short, Signature, Length, Version, Sum}
+use Rattle.suffix.specs.Suffix.{suffixed, Reading, accepted, read_of, unwritten, Left, left, write_of}
 
 -- three numbers of 16 bits: what the parts are by their types
 pub record Fits (p : Parts) : Type 0 where
@@ -44,12 +42,12 @@ pub record FileWith (bytes : List ℕ) (p : Parts) (n : ℕ) : Type 0 where
 
 -- what each reading says of the bytes: a refusal, that all before it is met and it is not
 abbrev pub Says : Reading → List ℕ → Type 0
-Says (Suffixed p n) bytes = FileWith bytes p n
-Says Short bytes = LongEnough bytes → ⊥
-Says Signature bytes = LongEnough bytes × (Signed bytes → ⊥)
-Says Length bytes = LongEnough bytes × Signed bytes × (Sized bytes → ⊥)
-Says Version bytes = LongEnough bytes × Signed bytes × Sized bytes × (Versioned bytes → ⊥)
-Says Sum bytes = LongEnough bytes × Signed bytes × Sized bytes × Versioned bytes × (Summed bytes → ⊥)
+Says (Ok s) bytes = FileWith bytes s.parts s.length
+Says (Err Short) bytes = LongEnough bytes → ⊥
+Says (Err Signature) bytes = LongEnough bytes × (Signed bytes → ⊥)
+Says (Err Length) bytes = LongEnough bytes × Signed bytes × (Sized bytes → ⊥)
+Says (Err Version) bytes = LongEnough bytes × Signed bytes × Sized bytes × (Versioned bytes → ⊥)
+Says (Err Sum) bytes = LongEnough bytes × Signed bytes × Sized bytes × Versioned bytes × (Summed bytes → ⊥)
 
 -- a reading is given exactly where it is true
 abbrev pub AcceptsExactly : (List ℕ → Reading) → Type 0
@@ -63,10 +61,10 @@ OneReader = (read : List ℕ → Reading) → AcceptsExactly read → (bytes : L
 pub record WritesExactly (write : List ℕ → Parts → List ℕ → Left) : Type 0 where
   pub no_room :
       (file : List ℕ) (p : Parts) (buffer : List ℕ) → length buffer < length file + 16
-      → write file p buffer ≡ left NoRoom buffer
+      → write file p buffer ≡ left unwritten buffer
   pub room :
       (file : List ℕ) (p : Parts) (buffer : List ℕ) → length file + 16 ≤ length buffer
-      → write file p buffer ≡ left (Wrote (length file + 16)) (suffixed file p ++ drop (length file + 16) buffer)
+      → write file p buffer ≡ left (Ok (length file + 16)) (suffixed file p ++ drop (length file + 16) buffer)
 
 -- no other writer does that
 abbrev pub OneWriter : Type 0
@@ -77,22 +75,22 @@ OneWriter =
 -- reading what was written gives the parts and the file back
 abbrev pub ReadWritten : (List ℕ → Reading) → (List ℕ → Parts → List ℕ → Left) → Type 0
 ReadWritten read write =
-    (file : List ℕ) (p : Parts) (buffer : List ℕ) (n : ℕ) → Bytes file → Fits p → (write file p buffer).result ≡ Wrote n
-    → (read (take n (write file p buffer).buffer) ≡ Suffixed p (length file))
+    (file : List ℕ) (p : Parts) (buffer : List ℕ) (n : ℕ) → Bytes file → Fits p → (write file p buffer).result ≡ Ok n
+    → (read (take n (write file p buffer).buffer) ≡ accepted p (length file))
     × (take (length file) (write file p buffer).buffer ≡ file)
 
 -- writing what was read gives the same bytes
 abbrev pub WriteRead : (List ℕ → Reading) → (List ℕ → Parts → List ℕ → Left) → Type 0
 WriteRead read write =
-    (bytes : List ℕ) (p : Parts) (n : ℕ) (buffer : List ℕ) → Bytes bytes → read bytes ≡ Suffixed p n
+    (bytes : List ℕ) (p : Parts) (n : ℕ) (buffer : List ℕ) → Bytes bytes → read bytes ≡ accepted p n
     → length bytes ≤ length buffer
-    → write (take n bytes) p buffer ≡ left (Wrote (length bytes)) (bytes ++ drop (length bytes) buffer)
+    → write (take n bytes) p buffer ≡ left (Ok (length bytes)) (bytes ++ drop (length bytes) buffer)
 
 -- two accepted files with the same file and parts are equal
 abbrev pub OneSuffix : (List ℕ → Reading) → Type 0
 OneSuffix read =
-    (bytes other : List ℕ) (p : Parts) (n m : ℕ) → Bytes bytes → Bytes other → read bytes ≡ Suffixed p n
-    → read other ≡ Suffixed p m → take n bytes ≡ take m other → bytes ≡ other
+    (bytes other : List ℕ) (p : Parts) (n m : ℕ) → Bytes bytes → Bytes other → read bytes ≡ accepted p n
+    → read other ≡ accepted p m → take n bytes ≡ take m other → bytes ≡ other
 
 -- no second outcome fits what the two calls promise, on the refused inputs too; and no two readings are true of the same bytes
 pub record OneOutcome : Type 0 where

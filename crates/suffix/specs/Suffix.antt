@@ -1,12 +1,13 @@
 -- A file with its suffix; what reading any bytes comes to, and what writing leaves.
-use Rattle.std.specs.Prelude.{ℕ, ◌+◌, ◌-◌, ◌≤◌, Bool, true, cond, not, ◌&&◌, List, [], ◌∷◌, ◌++◌, eqb, ltb, length, get_or, take, drop}
+use Rattle.std.specs.Prelude.{ℕ, ◌+◌, ◌-◌, Bool, cond, not, ◌&&◌, List, [], ◌∷◌, ◌++◌, eqb, ltb, length, get_or, take, drop}
+use Rattle.std.specs.Prelude.{Result, Ok, Err}
 use Rattle.numbers.specs.Numbers.{word_at, long_at, bytes2, bytes4}
 use Rattle.crc.specs.Crc.{crc_of}
 use Rattle.suffix.specs.declared.Parts.{Parts}
-use Rattle.suffix.specs.declared.Reading.{Reading}
-use Rattle.suffix.specs.declared.Reading.TheVariants.{Suffixed, Short, Signature, Length, Version, Sum}
-use Rattle.suffix.specs.declared.Writing.{Writing}
-use Rattle.suffix.specs.declared.Writing.TheVariants.{Wrote, NoRoom}
+use Rattle.suffix.specs.declared.Suffixed.{Suffixed}
+use Rattle.suffix.specs.declared.Refusal.{Refusal}
+use Rattle.suffix.specs.declared.Refusal.TheVariants.{Short, Signature, Length, Version, Sum}
+use Rattle.suffix.specs.declared.NoRoom.{NoRoom}
 
 -- the bytes of a suffix
 abbrev pub suffix_size : ℕ
@@ -33,52 +34,71 @@ sum_bytes before = bytes4 (crc_of before)
 unfoldable pub suffixed : List ℕ → Parts → List ℕ
 suffixed file p = (file ++ front_of p) ++ sum_bytes (file ++ front_of p)
 
--- as many bytes as a suffix has stand from a place on
-abbrev pub StandsAt : List ℕ → ℕ → Type 0
-StandsAt bytes at = at + suffix_size ≤ length bytes
+-- what the bytes of a suffix say: the numbers, and whether the signature, the length and the version are right
+abbrev pub parts_of : List ℕ → Parts
+parts_of suffix = record { device = word_at suffix 0; product = word_at suffix 2; vendor = word_at suffix 4 }
 
--- what stands where a suffix would: the numbers, the signature, the length, the version, and whether the sum is right
-abbrev pub parts_at : List ℕ → ℕ → Parts
-parts_at bytes at = record { device = word_at bytes at; product = word_at bytes (at + 2); vendor = word_at bytes (at + 4) }
+abbrev pub signed : List ℕ → Bool
+signed suffix = eqb (get_or suffix 8 0) 0x55 && eqb (get_or suffix 9 0) 0x46 && eqb (get_or suffix 10 0) 0x44
 
-abbrev pub signed_at : List ℕ → ℕ → Bool
-signed_at bytes at =
-    eqb (get_or bytes (at + 8) 0) 0x55 && eqb (get_or bytes (at + 9) 0) 0x46 && eqb (get_or bytes (at + 10) 0) 0x44
+abbrev pub sized : List ℕ → Bool
+sized suffix = eqb (get_or suffix 11 0) suffix_size
 
-abbrev pub sized_at : List ℕ → ℕ → Bool
-sized_at bytes at = eqb (get_or bytes (at + 11) 0) suffix_size
+abbrev pub versioned : List ℕ → Bool
+versioned suffix = eqb (word_at suffix 6) dfu_version
 
-abbrev pub versioned_at : List ℕ → ℕ → Bool
-versioned_at bytes at = eqb (word_at bytes (at + 6)) dfu_version
+-- and whether its sum is that of the bytes that it covers
+abbrev pub summed : List ℕ → List ℕ → Bool
+summed suffix covered = eqb (long_at suffix front_size) (crc_of covered)
 
-abbrev pub summed_at : List ℕ → ℕ → Bool
-summed_at bytes at = eqb (long_at bytes (at + front_size)) (crc_of (take (at + front_size) bytes))
+-- what a reading comes to: a file of so many bytes with the suffix of these parts, or why the bytes are refused
+abbrev pub Reading : Type 0
+Reading = Result Suffixed Refusal
+
+abbrev pub accepted : Parts → ℕ → Reading
+accepted p n = Ok (record { parts = p; length = n })
 
 -- the first test that fails says why; where none does, there is a suffix
 abbrev pub judged : Bool → Bool → Bool → Bool → Reading → Reading
 judged signed sized versioned summed found =
-    cond (not signed) Signature (cond (not sized) Length (cond (not versioned) Version (cond (not summed) Sum found)))
+    cond (not signed) (Err Signature)
+    (cond (not sized) (Err Length) (cond (not versioned) (Err Version) (cond (not summed) (Err Sum) found)))
 
--- bytes that are enough for a suffix, which would stand at a place; and those of them whose signature and length are right
-abbrev pub read_at : List ℕ → ℕ → Reading
-read_at bytes at =
-    judged (signed_at bytes at) (sized_at bytes at) (versioned_at bytes at) (summed_at bytes at) (Suffixed (parts_at bytes at) at)
+-- the last 16 bytes of any that are enough, and what stands before them
+abbrev pub suffix_of : List ℕ → List ℕ
+suffix_of bytes = drop (length bytes - suffix_size) bytes
 
-abbrev pub vouched_at : List ℕ → ℕ → Reading
-vouched_at bytes at = judged true true (versioned_at bytes at) (summed_at bytes at) (Suffixed (parts_at bytes at) at)
+abbrev pub image_of : List ℕ → List ℕ
+image_of bytes = take (length bytes - suffix_size) bytes
+
+-- what bytes come to of which these are the image and the suffix
+abbrev pub read_parts : List ℕ → List ℕ → List ℕ → Reading
+read_parts bytes image suffix =
+    judged (signed suffix) (sized suffix) (versioned suffix) (summed suffix (take (length image + front_size) bytes))
+    (accepted (parts_of suffix) (length image))
 
 -- any bytes
 unfoldable pub read_of : List ℕ → Reading
-read_of bytes = cond (ltb (length bytes) suffix_size) Short (read_at bytes (length bytes - suffix_size))
+read_of bytes =
+    cond (ltb (length bytes) suffix_size) (Err Short) (read_parts bytes (image_of bytes) (suffix_of bytes))
 
 -- the refusals by number
-abbrev pub refusal_number : Reading → ℕ
-refusal_number (Suffixed p n) = 0
+abbrev pub refusal_number : Refusal → ℕ
 refusal_number Short = 1
 refusal_number Signature = 2
 refusal_number Length = 3
 refusal_number Version = 4
 refusal_number Sum = 5
+
+-- what a writing comes to: how many bytes were written, or that none were; and the number of that
+abbrev pub Writing : Type 0
+Writing = Result ℕ NoRoom
+
+abbrev pub unwritten : Writing
+unwritten = Err (record {})
+
+abbrev pub unwritten_number : NoRoom → ℕ
+unwritten_number n = 1
 
 -- all that a writing leaves
 pub record Left : Type 0 where
@@ -99,4 +119,4 @@ laid file p buffer = suffixed file p ++ drop (size_with file) buffer
 -- they are laid there where there is room for them
 unfoldable pub write_of : List ℕ → Parts → List ℕ → Left
 write_of file p buffer =
-    cond (ltb (length buffer) (size_with file)) (left NoRoom buffer) (left (Wrote (size_with file)) (laid file p buffer))
+    cond (ltb (length buffer) (size_with file)) (left unwritten buffer) (left (Ok (size_with file)) (laid file p buffer))

@@ -3,32 +3,41 @@
 #![tactic(auto)]
 
 ghost use Rattle.std.specs.Prelude.{◌≤◌, ◌≡◌, ◌++◌, length};
-ghost use Rattle.suffix.specs.Suffix.{StandsAt, signed_at, sized_at, versioned_at, summed_at, parts_at, vouched_at, read_at, read_of};
-ghost use Rattle.suffix.specs.Suffix.{refusal_number, front_of, sum_bytes, size_with, laid, left, write_of};
+ghost use Rattle.suffix.specs.Suffix.{parts_of, summed, read_of, refusal_number, front_of, sum_bytes, size_with, laid, left, write_of};
+ghost use Rattle.suffix.specs.Suffix.{unwritten_number};
+
+use std::error::Error;
+use std::fmt;
 
 // The bytes of a suffix.
 const SIZE: usize = 16;
 // Those of them that its sum covers.
 const FRONT: usize = 12;
 // bcdDFU: the standard's version, 1.0.
-const VERSION: u32 = 0x0100;
+const VERSION: u16 = 0x0100;
 // What the signature's bytes are: UFD.
 const SIGNATURE: [u8; 3] = [0x55, 0x46, 0x44];
 
 // bcdDevice, idProduct and idVendor.
 #[repr(C)]
-#[derive(Clone, Copy)]
+#[derive(Clone, Copy, Debug, Default, PartialEq, Eq)]
 pub struct Parts {
     pub device: u16,
     pub product: u16,
     pub vendor: u16,
 }
 
-#[derive(Clone, Copy)]
-pub enum Reading {
-    // A file of so many bytes with its suffix.
-    Suffixed { parts: Parts, length: usize },
-    // Refused: under 16 bytes; then the first of these that is not as it must be.
+// A file of so many bytes with its suffix.
+#[derive(Clone, Copy, Debug, PartialEq, Eq)]
+pub struct Suffixed {
+    pub parts: Parts,
+    pub length: usize,
+}
+
+// Why bytes are no file with its suffix.
+#[derive(Clone, Copy, Debug, PartialEq, Eq)]
+pub enum Refusal {
+    // Under 16 bytes; then the first of these that is not as it must be.
     Short,
     Signature,
     Length,
@@ -36,121 +45,106 @@ pub enum Reading {
     Sum,
 }
 
-#[derive(Clone, Copy)]
-pub enum Writing {
-    // So many bytes at the buffer's front.
-    Wrote { count: usize },
-    NoRoom,
+impl fmt::Display for Refusal {
+    fn fmt<W: fmt::Write>(&self, f: &mut fmt::Formatter<W>) -> fmt::Result {
+        f.write_str(match self {
+            Refusal::Short => "too short for a suffix",
+            Refusal::Signature => "no suffix's signature",
+            Refusal::Length => "another length of suffix",
+            Refusal::Version => "another version of DFU",
+            Refusal::Sum => "another sum",
+        })
+    }
 }
 
-fn signed(file: &[u8], at: usize) -> bool
-    requires { StandsAt file.now at }
-    ensures { result ≡ signed_at file.now at }
-{
-    (file[at + 8] == SIGNATURE[0])
-        & (file[at + 9] == SIGNATURE[1])
-        & (file[at + 10] == SIGNATURE[2])
+impl Error for Refusal {}
+
+// The number that C hears.
+impl From<Refusal> for u16 {
+    ghost from_gives = { λ refusal number. number ≡ refusal_number refusal };
+
+    fn from(refusal: Refusal) -> u16 {
+        match refusal {
+            Refusal::Short => 1,
+            Refusal::Signature => 2,
+            Refusal::Length => 3,
+            Refusal::Version => 4,
+            Refusal::Sum => 5,
+        }
+    }
 }
 
-fn sized(file: &[u8], at: usize) -> bool
-    requires { StandsAt file.now at }
-    ensures { result ≡ sized_at file.now at }
-{
-    file[at + 11] == SIZE as u8
+// The buffer is too small for the file and its suffix.
+#[derive(Clone, Copy, Debug, PartialEq, Eq)]
+pub struct NoRoom;
+
+impl fmt::Display for NoRoom {
+    fn fmt<W: fmt::Write>(&self, f: &mut fmt::Formatter<W>) -> fmt::Result {
+        f.write_str("no room for the file and its suffix")
+    }
 }
 
-fn versioned(file: &[u8], at: usize) -> bool
-    requires { StandsAt file.now at }
-    ensures { result ≡ versioned_at file.now at }
-{
-    u32::from(numbers::word(file, at + 6)) == VERSION
+impl Error for NoRoom {}
+
+// The number that C hears.
+impl From<NoRoom> for u32 {
+    ghost from_gives = { λ unwritten number. number ≡ unwritten_number unwritten };
+
+    fn from(_unwritten: NoRoom) -> u32 {
+        1
+    }
 }
 
-fn summed(file: &[u8], at: usize) -> bool
-    requires { StandsAt file.now at }
-    ensures { result ≡ summed_at file.now at }
-{
-    let end = at + FRONT;
-    numbers::long(file, end) == crc::sum(&file[0..end])
-}
-
-fn parts_at(file: &[u8], at: usize) -> Parts
-    requires { StandsAt file.now at }
-    ensures { result ≡ parts_at file.now at }
+fn parts_of(suffix: &[u8; SIZE]) -> Parts
+    ensures { result ≡ parts_of suffix.now }
 {
     Parts {
-        device: numbers::word(file, at),
-        product: numbers::word(file, at + 2),
-        vendor: numbers::word(file, at + 4),
+        device: numbers::word(suffix, 0),
+        product: numbers::word(suffix, 2),
+        vendor: numbers::word(suffix, 4),
     }
 }
 
-// What a suffix of the right form comes to: one of this version whose sum is right, or a refusal.
-fn vouched_at(file: &[u8], at: usize) -> Reading
-    requires { StandsAt file.now at }
-    ensures { result ≡ vouched_at file.now at }
+fn summed(suffix: &[u8; SIZE], covered: &[u8]) -> bool
+    ensures { result ≡ summed suffix.now covered.now }
 {
-    if !versioned(file, at) {
-        return Reading::Version;
-    }
-    if !summed(file, at) {
-        return Reading::Sum;
-    }
-    Reading::Suffixed {
-        parts: parts_at(file, at),
-        length: at,
-    }
-}
-
-fn read_at(file: &[u8], at: usize) -> Reading
-    requires { StandsAt file.now at }
-    ensures { result ≡ read_at file.now at }
-{
-    if !signed(file, at) {
-        return Reading::Signature;
-    }
-    if !sized(file, at) {
-        return Reading::Length;
-    }
-    vouched_at(file, at)
+    numbers::long(suffix, FRONT) == crc::sum(covered)
 }
 
 // Any bytes are a file with its suffix, or are refused for the first thing that is wrong.
 #[tactic(auto, unfolding(crate::specs::Suffix::read_of))]
-pub fn read(file: &[u8]) -> Reading
+pub fn read(file: &[u8]) -> Result<Suffixed, Refusal>
     ensures { result ≡ read_of file.now }
 {
-    if file.len() < SIZE {
-        return Reading::Short;
+    let (image, suffix) = file.split_last_chunk::<SIZE>().ok_or(Refusal::Short)?;
+    if suffix[8..11] != SIGNATURE[..] {
+        return Err(Refusal::Signature);
     }
-    read_at(file, file.len() - SIZE)
-}
-
-// The number of a refusal, and 0 for what is accepted.
-pub fn number(reading: Reading) -> u16
-    ensures { result ≡ refusal_number reading }
-{
-    match reading {
-        Reading::Suffixed {
-            parts: _,
-            length: _,
-        } => 0,
-        Reading::Short => 1,
-        Reading::Signature => 2,
-        Reading::Length => 3,
-        Reading::Version => 4,
-        Reading::Sum => 5,
+    if suffix[11] != SIZE as u8 {
+        return Err(Refusal::Length);
     }
+    if numbers::word(suffix, 6) != VERSION {
+        return Err(Refusal::Version);
+    }
+    if !summed(suffix, &file[..image.len() + FRONT]) {
+        return Err(Refusal::Sum);
+    }
+    Ok(Suffixed {
+        parts: parts_of(suffix),
+        length: image.len(),
+    })
 }
 
 // The suffix but for its sum.
-fn front(parts: Parts) -> [u8; 12]
+#[tactic(auto, unfolding(crate::specs::Suffix::front_of))]
+fn front(parts: Parts) -> [u8; FRONT]
     ensures { result ≡ front_of parts }
 {
-    let device = numbers::low::<2>(parts.device as u32);
-    let product = numbers::low::<2>(parts.product as u32);
-    let vendor = numbers::low::<2>(parts.vendor as u32);
-    let version = numbers::low::<2>(VERSION);
+    let device = numbers::low::<2>(u32::from(parts.device));
+    let product = numbers::low::<2>(u32::from(parts.product));
+    let vendor = numbers::low::<2>(u32::from(parts.vendor));
+    let version = numbers::low::<2>(u32::from(VERSION));
+    let [u, f, d] = SIGNATURE;
     [
         device[0],
         device[1],
@@ -160,14 +154,15 @@ fn front(parts: Parts) -> [u8; 12]
         vendor[1],
         version[0],
         version[1],
-        SIGNATURE[0],
-        SIGNATURE[1],
-        SIGNATURE[2],
+        u,
+        f,
+        d,
         SIZE as u8,
     ]
 }
 
 // The sum goes on over the front, so that the two parts need not stand in one slice.
+#[tactic(auto, using(crate::proofs::Laws::goes_on), unfolding(crate::specs::Suffix::sum_bytes))]
 fn sum_bytes(file: &[u8], front: &[u8]) -> [u8; 4]
     ensures { result ≡ sum_bytes (file.now ++ front.now) }
 {
@@ -186,18 +181,15 @@ fn lay(file: &[u8], parts: Parts, buffer: &mut [u8])
 }
 
 // The file and its suffix go to the buffer's front. A file that has a suffix already gets a second one.
-pub fn write(file: &[u8], parts: Parts, buffer: &mut [u8]) -> Writing
+#[tactic(auto, unfolding(crate::specs::Suffix::write_of))]
+pub fn write(file: &[u8], parts: Parts, buffer: &mut [u8]) -> Result<usize, NoRoom>
     ensures { left result buffer.new ≡ write_of file.now parts buffer.old }
 {
-    // Subtracted, since a sum could wrap.
-    if buffer.len() < SIZE {
-        return Writing::NoRoom;
-    }
-    if buffer.len() - SIZE < file.len() {
-        return Writing::NoRoom;
-    }
-    lay(file, parts, buffer);
-    Writing::Wrote {
-        count: file.len() + SIZE,
+    match file.len().checked_add(SIZE) {
+        Some(count) if count <= buffer.len() => {
+            lay(file, parts, buffer);
+            Ok(count)
+        }
+        _ => Err(NoRoom),
     }
 }
