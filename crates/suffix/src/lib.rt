@@ -111,7 +111,8 @@ fn summed(suffix: &[u8; SIZE], covered: &[u8]) -> bool
     numbers::long(suffix, FRONT) == crc::sum(covered)
 }
 
-// Any bytes are a file with its suffix, or are refused for the first thing that is wrong.
+// Any bytes are a file with its suffix, or are refused for the first thing that is wrong. In the suffix bcdDFU stands at 6, the
+// signature at 8, the length at 11, and the sum behind the front.
 #[tactic(auto, unfolding(crate::specs::Suffix::read_of))]
 pub fn read(file: &[u8]) -> Result<Suffixed, Refusal>
     ensures { result ≡ read_of file.now }
@@ -140,25 +141,14 @@ pub fn read(file: &[u8]) -> Result<Suffixed, Refusal>
 fn front(parts: Parts) -> [u8; FRONT]
     ensures { result ≡ front_of parts }
 {
-    let device = numbers::low::<2>(u32::from(parts.device));
-    let product = numbers::low::<2>(u32::from(parts.product));
-    let vendor = numbers::low::<2>(u32::from(parts.vendor));
-    let version = numbers::low::<2>(u32::from(VERSION));
-    let [u, f, d] = SIGNATURE;
-    [
-        device[0],
-        device[1],
-        product[0],
-        product[1],
-        vendor[0],
-        vendor[1],
-        version[0],
-        version[1],
-        u,
-        f,
-        d,
-        SIZE as u8,
-    ]
+    let mut front = [0; FRONT];
+    front[..2].copy_from_slice(&numbers::low::<2>(u32::from(parts.device)));
+    front[2..4].copy_from_slice(&numbers::low::<2>(u32::from(parts.product)));
+    front[4..6].copy_from_slice(&numbers::low::<2>(u32::from(parts.vendor)));
+    front[6..8].copy_from_slice(&numbers::low::<2>(u32::from(VERSION)));
+    front[8..11].copy_from_slice(&SIGNATURE);
+    front[11] = SIZE as u8;
+    front
 }
 
 // The sum goes on over the front, so that the two parts need not stand in one slice.
@@ -169,6 +159,7 @@ fn sum_bytes(file: &[u8], front: &[u8]) -> [u8; 4]
     numbers::low(crc::sum_from(crc::sum(file), front))
 }
 
+// Three calls and no loop over the pieces: each lends bytes of another length, and the next place is handed on.
 fn lay(file: &[u8], parts: Parts, buffer: &mut [u8])
     requires { size_with file.now ≤ length buffer.old }
     ensures { buffer.new ≡ laid file.now parts buffer.old }
@@ -185,6 +176,7 @@ fn lay(file: &[u8], parts: Parts, buffer: &mut [u8])
 pub fn write(file: &[u8], parts: Parts, buffer: &mut [u8]) -> Result<usize, NoRoom>
     ensures { left result buffer.new ≡ write_of file.now parts buffer.old }
 {
+    // Checked, since the sum could wrap.
     match file.len().checked_add(SIZE) {
         Some(count) if count <= buffer.len() => {
             lay(file, parts, buffer);
