@@ -2,7 +2,7 @@
 // Refusals are numbers here, since no enum can be handed over to C. `include/mullirim_files.h` declares these calls.
 #![tactic(auto)]
 
-ghost use Rattle.std.specs.Prelude.{◌+◌, ◌≤◌, ◌≡◌, length};
+ghost use Rattle.std.specs.Prelude.{◌+◌, ◌≤◌, ◌≡◌, length, MatchResult};
 ghost use Rattle.suffix.specs.Suffix.{read_of};
 ghost use Rattle.bundle.specs.Bundle.{part_of};
 ghost use Rattle.bundle.specs.Bundle as Bundle;
@@ -26,6 +26,22 @@ pub struct SuffixFound {
 pub struct Written {
     pub refused: u32,
     pub count: usize,
+}
+
+// A writing as the host has it, whatever it may be refused for.
+impl<E: Into<u32>> From<Result<usize, E>> for Written {
+    ghost from_gives = { λ writing written.
+        MatchResult writing (λ n. written ≡ record { refused = 0; count = n }) (λ e. E.converts e written.refused × (written.count ≡ 0)) };
+
+    fn from(writing: Result<usize, E>) -> Written {
+        match writing {
+            Ok(count) => Written { refused: 0, count },
+            Err(refusal) => Written {
+                refused: refusal.into(),
+                count: 0,
+            },
+        }
+    }
 }
 
 // How many images a bundle has; or why it was refused, and zero.
@@ -59,13 +75,7 @@ pub extern "C" fn mullirim_suffix_read(file: &[u8]) -> SuffixFound
 pub extern "C" fn mullirim_suffix_write(file: &[u8], parts: Parts, buffer: &mut [u8]) -> Written
     ensures { at_host result buffer.new ≡ suffix_written file.now parts buffer.old }
 {
-    match suffix::write(file, parts, buffer) {
-        Ok(count) => Written { refused: 0, count },
-        Err(no_room) => Written {
-            refused: u32::from(no_room),
-            count: 0,
-        },
-    }
+    Written::from(suffix::write(file, parts, buffer))
 }
 
 #[unsafe(no_mangle)]
