@@ -159,7 +159,7 @@ fn sum_bytes(file: &[u8], front: &[u8]) -> [u8; 4]
     numbers::low(crc::sum_from(crc::sum(file), front))
 }
 
-// Three calls and no loop over the pieces: each lends bytes of another length, and the next place is handed on.
+// One by one: a loop over the three pieces would be no shorter, and would want an invariant.
 fn lay(file: &[u8], parts: Parts, buffer: &mut [u8])
     requires { size_with file.now ≤ length buffer.old }
     ensures { buffer.new ≡ laid file.now parts buffer.old }
