@@ -1,27 +1,11 @@
--- The laws of laying: a copy to the front of a buffer's rest, and one piece behind the other. Assumes nothing.
-use Prim.Native.Nat.{ℕ, ◌+◌, ◌-◌, ◌≤◌}
-use mathlib.Core.List.{List, [], ◌++◌, append_assoc, append-nil}
+-- The laws of laying: one piece behind the other. Assumes nothing.
+use Prim.Native.Nat.{ℕ, ◌+◌, ◌≤◌}
+use mathlib.Core.List.{List, [], ◌++◌, append_assoc}
 use mathlib.Core.Path.{◌≡◌, sym, ap, ap₂, subst, ◌∙◌}
 use native.Mathlib.Omega.{arith}
-use lib.ListN.{length, take, drop, length-append, length-drop, drop_of_length-le}
-use lib.Seq.{take_all, take-length, drop-drop, paste-zero, take-paste, drop-paste}
+use lib.ListN.{length, take, drop, length-append}
+use lib.Seq.{take-length, drop-drop, paste-zero, take-paste, drop-paste}
 use Rattle.pieces.specs.Pieces.{placed, Laid}
-
--- a copy to the front of a buffer's rest, put back into the buffer
-pub put_rest :
-    (buffer bytes new : List ℕ) (at : ℕ) → at ≤ length buffer
-    → new ≡ take (length bytes) bytes ++ drop (length bytes) (take (length buffer - at) (drop at buffer))
-    → take at buffer ++ (new ++ drop (length buffer - at) (drop at buffer)) ≡ placed buffer at bytes
-put_rest buffer bytes new at h e =
-    let long : length (drop at buffer) ≤ length buffer - at = omega (arith, length-drop at buffer) in
-    let all : List ℕ = take (length bytes) bytes in
-    ap₂ (λ (x y : List ℕ). take at buffer ++ (x ++ y))
-    (e
-    ∙ ap (λ (x : List ℕ). all ++ x)
-    (ap (drop (length bytes)) (take_all (length buffer - at) (drop at buffer) long) ∙ drop-drop (length bytes) at buffer))
-    (drop_of_length-le (drop at buffer) long)
-    ∙ ap (λ (x : List ℕ). take at buffer ++ x) (append-nil (all ++ drop (at + length bytes) buffer))
-    ∙ sym (append_assoc (take at buffer) all (drop (at + length bytes) buffer))
 
 -- nothing is laid
 pub placed_none : (buffer : List ℕ) (at : ℕ) → placed buffer at [] ≡ buffer

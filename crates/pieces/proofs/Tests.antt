@@ -1,9 +1,9 @@
 -- What a test tells: it is true if and only if something holds. Assumes nothing.
 use Prim.Native.Nat.{ℕ, ◌≤◌}
-use mathlib.Core.Bool.{Bool, true, false, not, ◌&&◌, ◌||◌, true≢false, false≢true}
-use mathlib.Core.Path.{◌≡◌, refl, sym, ap, ◌∙◌}
+use mathlib.Core.Bool.{Bool, true, false, ◌&&◌, ◌||◌, true≢false, false≢true}
+use mathlib.Core.Path.{◌≡◌, refl, sym, ◌∙◌}
 use lib.Dec.{eqb, leb}
-use borrow.Author.Tests.{eqb-true, eq-eqb, leb-true, le-leb, not-true, not-false}
+use borrow.Author.Tests.{eqb-true, eq-eqb, leb-true, le-leb}
 
 pub record Tells (t : Bool) (A : Type 0) : Type 0 where
   pub yes : t ≡ true → A
@@ -34,18 +34,7 @@ pub either_way : {A : Type 0} (t : Bool) → (t ≡ true → A) → (t ≡ false
 either_way true f g = f refl
 either_way false f g = g refl
 
--- a negated answer tells of the test that it is promised to be
-pub told_not : (r t v : Bool) → r ≡ t → not r ≡ v → not t ≡ v
-told_not r t v p q = ap not (sym p) ∙ q
-
 -- where one of two holds not, neither does
 pub neither : (s t : Bool) → (s || t) ≡ false → (s ≡ false) × (t ≡ false)
 neither true t h = absurd (true≢false h)
 neither false t h = (refl, h)
-
--- so where the test is asked for the other way: `if !asked`, and behind it
-pub was_false : {r t : Bool} → r ≡ t → not r ≡ true → t ≡ false
-was_false p q = sym p ∙ not-true _ q
-
-pub was_true : {r t : Bool} → r ≡ t → not r ≡ false → t ≡ true
-was_true p q = sym p ∙ not-false _ q

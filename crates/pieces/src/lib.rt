@@ -5,13 +5,14 @@ ghost use Rattle.std.specs.Prelude.{◌+◌, ◌≤◌, length};
 ghost use Rattle.pieces.specs.Pieces.{Laid};
 
 // Lays bytes from a place on, and answers the place behind them.
+#[tactic(auto, using(std::proofs::lemmas::List::Edits::paste_more))]
 pub fn put(bytes: &[u8], buffer: &mut [u8], at: usize) -> usize
     requires { at + length bytes.now ≤ length buffer.old }
     ensures { Laid buffer.old buffer.new at result bytes.now }
 {
     // A loop, since the library's own copy would want memmove of whoever links the calls for files.
-    for i in 0..bytes.len() {
-        buffer[at + i] = bytes[i];
+    for (i, &byte) in bytes.iter().enumerate() {
+        buffer[at + i] = byte;
     }
     at + bytes.len()
 }

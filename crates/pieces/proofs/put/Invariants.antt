@@ -1,4 +1,4 @@
--- The first i bytes lie in their places. Assumes nothing.
+-- The first i bytes lie in their places.
 use Rattle.std.proofs.Common.{◌≡◌}
 use Rattle.std.proofs.Math.Seq.{paste}
 use Rattle.pieces.proofs.put.Given as goal
