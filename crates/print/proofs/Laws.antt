@@ -44,17 +44,13 @@ decimal_more n h =
     digits_more n n h
     ∙ ap (λ (x : List ℕ). x ++ last_digit n) (digits_same n (suc (n / 10)) (n / 10) (omega arith) (omega arith))
 
-pub length_one : (n : ℕ) → n < 10 → length (decimal_of n) ≡ 1
+length_one : (n : ℕ) → n < 10 → length (decimal_of n) ≡ 1
 length_one n h = ap length (decimal_one n h)
 
 pub length_more : (n : ℕ) → 10 ≤ n → length (decimal_of n) ≡ length (decimal_of (n / 10)) + 1
 length_more n h = ap length (decimal_more n h) ∙ length-append (decimal_of (n / 10)) (last_digit n)
 
--- so the last digit is laid alone, or behind the others
-pub laid_one :
-    (b c : List ℕ) (at r n : ℕ) → n < 10 → Laid b c at r (last_digit n) → Laid b c at r (decimal_of n)
-laid_one b c at r n h l = subst (λ (d : List ℕ). Laid b c at r d) (sym (decimal_one n h)) l
-
+-- so the last digit is laid behind the others
 pub laid_behind :
     (b c d : List ℕ) (at m r n : ℕ) → 10 ≤ n → at ≤ length b → Laid b c at m (decimal_of (n / 10)) → Laid c d m r (last_digit n)
     → Laid b d at r (decimal_of n)

@@ -6,7 +6,10 @@ ghost use Rattle.pieces.specs.Pieces.{Laid};
 ghost use Rattle.print.specs.Hex.{digit_of, hex_of};
 ghost use Rattle.print.specs.Decimal.{last_digit, decimal_of};
 
+use std::array;
+
 // The last hexadecimal digit of a number, in upper case.
+#[tactic(auto, unfolding(crate::specs::Hex::digit_of))]
 fn digit(n: u32) -> u8
     ensures { result ≡ digit_of n }
 {
@@ -18,16 +21,7 @@ fn digit(n: u32) -> u8
 pub fn hex8(x: u32) -> [u8; 8]
     ensures { result ≡ hex_of x }
 {
-    [
-        digit(x / 0x1000_0000),
-        digit(x / 0x100_0000),
-        digit(x / 0x10_0000),
-        digit(x / 0x1_0000),
-        digit(x / 0x1000),
-        digit(x / 0x100),
-        digit(x / 0x10),
-        digit(x),
-    ]
+    array::from_fn(|i| digit(x >> (28 - 4 * i)))
 }
 
 fn put_last_digit(n: u64, text: &mut [u8], at: usize) -> usize
@@ -38,7 +32,7 @@ fn put_last_digit(n: u64, text: &mut [u8], at: usize) -> usize
 }
 
 // The decimal digits of a number, the most significant first, from a place on. The higher ones are those of the quotient by ten.
-#[tactic(auto, using(crate::proofs::Laws::decimal_one))]
+#[tactic(auto, using(crate::proofs::Laws::decimal_one, crate::proofs::Laws::length_more))]
 pub fn decimal(n: u64, text: &mut [u8], at: usize) -> usize
     requires { at + length (decimal_of n) ≤ length text.old }
     ensures { Laid text.old text.new at result (decimal_of n) }
