@@ -1,11 +1,10 @@
 // Plays the script on standard input, one session of every kind of request, through the loader.
+// A program of its own, since each program here has one stored input and one output.
 #![tactic(auto)]
 
 use std::io;
 
 fn main(rt: HostRuntime) -> io::Result<()> {
-    let mut input = [0u8; 65_536];
-    let n = input::read_full(&mut rt.reader(), &mut input)?;
-    script::play(&rt, &input[..n])?;
+    script::play_input(&rt, &mut rt.reader())?;
     Ok(())
 }

@@ -1,65 +1,35 @@
 -- The calls that were counted, and those that are left to count. Assumes nothing.
-use Prim.Native.Nat.{ℕ, zero, suc, ◌+◌, ◌-◌, ◌≤◌, ◌<◌}
-use mathlib.Core.List.{List}
-use mathlib.Core.Path.{◌≡◌, refl, sym, ap, ◌∙◌}
-use native.Mathlib.Numerals.{unary_clauses}
-use native.Mathlib.Omega.{arith}
-use lib.ListN.{length, take, drop, length-drop}
-use lib.Seq.{take-length, drop-drop}
-use Rattle.script.specs.Tape.{record_of, count_with, count_from, calls_after_head}
-use Rattle.script.specs.declared.tape.Record.TheVariants.{Call, End}
-use Rattle.script.proofs.Records.{rest, inside, cut_in_setup}
+use Rattle.std.proofs.Common.{◌≡◌, ℕ, zero, suc, ◌+◌, ◌-◌, ◌≤◌, ◌<◌, List, Some, None, length, refl, arith}
+use Rattle.script.specs.Tape.{Call, record_of, count_with, count_from, calls_in}
 
--- k calls lie before a place, and with those from there on they are all
-pub record Counted (script : List ℕ) (at k : ℕ) : Type 0 where
-  pub few : k ≤ at
-  pub all : k + count_from (length script - k) (drop at script) ≡ calls_after_head script
+-- k calls lie before what is left, and with those that are left they are all
+pub record Counted (calls rest : List ℕ) (k : ℕ) : Type 0 where
+  pub few : k + length rest ≤ length calls
+  pub all : k + count_from (length calls - k) rest ≡ calls_in calls
 
-pub none_counted : (script : List ℕ) → Counted script 10 0
-none_counted script = record { few = omega arith; all = simp unary_clauses (omega arith) }
-
-rest_is_drop : (script : List ℕ) (at : ℕ) → rest script at ≡ drop at script
-rest_is_drop script at =
-    ap (λ (n : ℕ). take n (drop at script)) (sym (length-drop at script)) ∙ take-length (drop at script)
+pub none_counted : (calls : List ℕ) → Counted calls calls 0
+none_counted calls = record { few = omega arith; all = grind arith }
 
 -- a record counts one, and then what follows it
-counts_one :
-    (n : ℕ) (r : List ℕ) (ends next : ℕ) → record_of r ≡ Call ends next
-    → count_from (suc n) r ≡ 1 + count_from n (drop next r)
+counts_one : (n : ℕ) (rest : List ℕ) (call : Call) → record_of rest ≡ Some call → count_from (suc n) rest ≡ 1 + count_from n call.rest
 unfolding count_from count_with
-counts_one n r ends next e = rw e
+counts_one n rest call e = rw e
 
 -- without a record there is nothing to count
-counts_none : (n : ℕ) (r : List ℕ) → record_of r ≡ End → count_from n r ≡ 0
+counts_none : (n : ℕ) (rest : List ℕ) → record_of rest ≡ None → count_from n rest ≡ 0
 unfolding count_from count_with
-counts_none zero r e = refl
-counts_none (suc n) r e = rw e
+counts_none zero rest e = refl
+counts_none (suc n) rest e = rw e
 
-module _ (script : List ℕ) (at k : ℕ) where
-  pub one_counted :
-      (ends next : ℕ) → at < length script → record_of (rest script at) ≡ Call ends next
-      → Counted script at k → Counted script (at + next) (k + 1)
-  one_counted ends next h e w =
-      let i = inside script at h ends next e in
-      let n = length script - (k + 1) in
-      let fuel : length script - k ≡ suc n = omega arith in
-      let here : record_of (drop at script) ≡ Call ends next = ap record_of (sym (rest_is_drop script at)) ∙ e in
-      let one : count_from (length script - k) (drop at script) ≡ 1 + count_from n (drop (at + next) script) =
-      rw (fuel, sym (drop-drop next at script)) (counts_one n (drop at script) ends next here) in
-      let all = w.all in
-      record { few = omega arith; all = omega arith }
+pub one_counted :
+    (calls rest : List ℕ) (k : ℕ) (call : Call) → record_of rest ≡ Some call → length call.rest < length rest
+    → Counted calls rest k → Counted calls call.rest (k + 1)
+one_counted calls rest k call e h w =
+    let n : ℕ = length calls - (k + 1) in
+    let fuel : length calls - k ≡ suc n = omega arith in
+    let one = counts_one n rest call e in
+    record { few = omega arith; all = rw (← w.all, fuel, one) (omega arith) }
 
-  -- where the script ends or is cut short, all were counted
-  none_left : record_of (drop at script) ≡ End → Counted script at k → k ≡ calls_after_head script
-  none_left e w =
-      let none = counts_none (length script - k) (drop at script) e in
-      let all = w.all in
-      omega arith
-
-  pub all_at_cut : record_of (rest script at) ≡ End → Counted script at k → k ≡ calls_after_head script
-  all_at_cut e w = none_left (ap record_of (sym (rest_is_drop script at)) ∙ e) w
-
-  pub all_at_end : length script ≤ at → Counted script at k → k ≡ calls_after_head script
-  all_at_end h w =
-      let short = length-drop at script in
-      none_left (cut_in_setup (drop at script) (omega arith)) w
+-- where the script ends or is cut short, all were counted
+pub all_counted : (calls rest : List ℕ) (k : ℕ) → record_of rest ≡ None → Counted calls rest k → k ≡ calls_in calls
+all_counted calls rest k e w = omega (arith, counts_none (length calls - k) rest e, w.all)

@@ -1,5 +1,4 @@
--- Laws of scripts, of the count of their calls, of the flash at first and of the sum of the kept sums.
-mod Records
-mod Counting
-mod Filling
-mod Sums
+-- Laws of a script's records, of the count of its calls, and of the sum of the kept sums.
+pub mod Records
+pub mod Counting
+pub mod Sums

@@ -1,66 +1,43 @@
--- Which record a script goes on with, and that its parts lie in the script. Assumes nothing.
-use Prim.Native.Nat.{ℕ, ◌+◌, ◌-◌, ◌≤◌, ◌<◌}
-use mathlib.Core.List.{List}
-use mathlib.Core.Path.{◌≡◌, refl, ap}
-use native.Mathlib.Decide.{dec_lt}
-use native.Mathlib.Omega.{arith}
-use borrow.Author.Tests.{lt-ltb, le-ltb}
-use lib.ListN.{length, take, drop, length-take, length-drop}
+-- Which call a script goes on with: the parts that are cut off one after the other are those of its record. Assumes nothing.
+use Rattle.std.proofs.Common.{◌≡◌, ℕ, ◌+◌, ◌*◌, ◌≤◌, ◌<◌, List, ◌∷◌, Some, length, get_or, take, drop, ap, ap₂, ◌∙◌, add-one, arith, get_or-take}
+use Rattle.std.proofs.Math.Seq.{drop-drop}
+use Rattle.std.proofs.lemmas.List.{get_or-drop}
+use Rattle.std.specs.List.{IsFirstAndRest, IsSplitAt}
+use borrow.Author.Tests.{le-ltb}
 use Rattle.numbers.specs.Numbers.{word_at}
-use Rattle.script.specs.Tape.{setup_end, data_end, record_of}
-use Rattle.script.specs.declared.tape.Record.TheVariants.{Call, End}
+use Rattle.script.specs.Tape.{data_end, call_with, record_of}
 
-module _ (rest : List ℕ) where
-  pub cut_in_setup : length rest < setup_end rest + 2 → record_of rest ≡ End
-  unfolding record_of
-  cut_in_setup h = rw (lt-ltb (length rest) (setup_end rest + 2) h)
+-- what stands behind n bytes stands one further on in the record
+get_cut : (n k at : ℕ) (behind : List ℕ) → at ≡ n + k + 1 → k < 2 → get_or (take 2 (drop n behind)) k 0 ≡ get_or (n ∷ behind) at 0
+get_cut n k at behind e h = get_or-take 2 (drop n behind) k 0 h ∙ get_or-drop n behind k 0 ∙ rw (e, add-one)
 
-  -- once the setup's end is known, and how many data bytes are told there
-  module _ (ends long : ℕ) (e : ends ≡ setup_end rest) (w : long ≡ word_at rest ends) (h : ends + 2 ≤ length rest) where
-    data_end_lem : ends + 2 + long ≡ data_end rest
-    data_end_lem = let there = ap (word_at rest) e in omega arith
+word_cut : (n : ℕ) (behind : List ℕ) → word_at (take 2 (drop n behind)) 0 ≡ word_at (n ∷ behind) (n + 1)
+word_cut n behind =
+    ap₂ (λ low high. low + high * 256) (get_cut n 0 (n + 1) behind (omega arith) (omega arith))
+    (get_cut n 1 (n + 1 + 1) behind (omega arith) (omega arith))
 
-    pub cut_in_data : length rest < ends + 2 + long → record_of rest ≡ End
-    unfolding record_of
-    cut_in_data k =
-        let d = data_end_lem in
-        rw (le-ltb (length rest) (setup_end rest + 2) (omega arith), lt-ltb (length rest) (data_end rest) (omega arith))
+drop_cut : (n : ℕ) (behind : List ℕ) → drop 2 (drop n behind) ≡ drop (n + 1 + 2) (n ∷ behind)
+drop_cut n behind =
+    let e : 1 + (n + 2) ≡ n + 1 + 2 = omega arith in
+    drop-drop 2 n behind ∙ drop-drop (n + 2) 1 (n ∷ behind) ∙ ap (λ at. drop at (n ∷ behind)) e
 
-    pub whole_record : ends + 2 + long ≤ length rest → record_of rest ≡ Call ends (ends + 2 + long)
-    unfolding record_of
-    whole_record k =
-        let d = data_end_lem in
-        rw (d, e, le-ltb (length rest) (setup_end rest + 2) (omega arith), le-ltb (length rest) (data_end rest) (omega arith))
+-- so a record that is whole holds what is cut off
+whole : (n m : ℕ) (behind : List ℕ) → m ≡ word_at (n ∷ behind) (n + 1) → n + 2 + m ≤ length behind
+    → record_of (n ∷ behind) ≡ Some (call_with (take n behind) (take m (drop 2 (drop n behind))) (drop m (drop 2 (drop n behind))))
+unfolding record_of
+whole n m behind word h =
+    let e = drop_cut n behind in
+    let f = drop-drop m (n + 1 + 2) (n ∷ behind) in
+    rw (le-ltb (length (n ∷ behind)) (n + 1 + 2) (omega arith), le-ltb (length (n ∷ behind)) (data_end (n ∷ behind)) (omega arith))
+    (cc)
 
--- what is left of a script from a place on
-abbrev pub rest : List ℕ → ℕ → List ℕ
-rest script at = take (length script - at) (drop at script)
-
--- the setup and then the data lie in what is left, and the next record begins further on
-pub record Inside (script : List ℕ) (at ends next : ℕ) : Type 0 where
-  pub setup : 1 ≤ ends
-  pub ordered : ends + 2 ≤ next
-  pub within : next ≤ length (rest script at)
-  pub onward : at + next ≤ length script
-
-module _ (script : List ℕ) (at : ℕ) (h : at < length script) (ends next : ℕ) where
-  parts_inside :
-      ends ≡ setup_end (rest script at) → next ≡ data_end (rest script at) → next ≤ length (rest script at)
-      → Inside script at ends next
-  parts_inside s d w =
-      let long : length (rest script at) ≡ length script - at = simp (length-take, length-drop) (omega arith) in
-      record { setup = omega arith; ordered = omega arith; within = w; onward = omega arith }
-
-  pub inside : record_of (rest script at) ≡ Call ends next → Inside script at ends next
-  inside e =
-      let r = rest script at in
-      elim (dec_lt (length r) (setup_end r + 2)) [
-        | yes l ↦ let p = cut_in_setup r l in let z : ◌≡◌ {A = ℕ} 0 1 = cc in absurd (omega arith)
-        | no l ↦ elim (dec_lt (length r) (data_end r)) [
-          | yes m ↦ let p = cut_in_data r _ _ refl refl (omega arith) m in let z : ◌≡◌ {A = ℕ} 0 1 = cc in absurd (omega arith)
-          | no m ↦
-              let p = whole_record r _ _ refl refl (omega arith) (omega arith) in
-              let d : next ≡ data_end r = cc in
-              parts_inside (cc) d (omega arith)
-        ]
-      ]
+pub whole_record :
+    (script behind setup after two more bytes last : List ℕ) (n k m : ℕ) → IsFirstAndRest script n behind → k ≡ n
+    → IsSplitAt behind k setup after → (two ≡ take 2 after) × (more ≡ drop 2 after) × (length more + 2 ≡ length after) → m ≡ word_at two 0
+    → IsSplitAt more m bytes last → record_of script ≡ Some (call_with setup bytes last)
+whole_record script behind setup after two more bytes last n k m f e s t w b =
+    let word : m ≡ word_at (k ∷ behind) (k + 1) =
+    w ∙ ap (λ x. word_at x 0) t.0 ∙ ap (λ x. word_at (take 2 x) 0) s.2 ∙ word_cut k behind
+    in
+    let r = whole k m behind word (omega (arith, s.4, t.2, b.0)) in
+    cc

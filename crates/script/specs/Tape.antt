@@ -1,11 +1,10 @@
 -- What a script holds, and the flash that every run begins with.
-use Rattle.std.specs.Prelude.{ℕ, zero, suc, ◌+◌, ◌*◌, ◌/◌, ◌%◌, cond, ◌&&◌, List, eqb, leb, ltb, length, get_or, drop}
+use Rattle.std.specs.Prelude.{ℕ, zero, suc, ◌+◌, ◌*◌, ◌/◌, ◌%◌, cond, ◌&&◌, List, Option, Some, None, eqb, leb, ltb, length, ◌≡◌, ◌<◌, ◌≤◌, get_or, take, drop}
+use Rattle.std.specs.Io.KnownBytes.{Consumes, IsAtEnd}
 use Rattle.flash.specs.Flash.{block_size}
 use Rattle.crc.specs.Values.{values}
 use Rattle.numbers.specs.Numbers.{word_at, long_at}
 use Rattle.script.specs.declared.tape.Head.{Head}
-use Rattle.script.specs.declared.tape.Record.{Record}
-use Rattle.script.specs.declared.tape.Record.TheVariants.{Call, End}
 
 -- the head: A, B and the two part numbers, low byte first
 unfoldable pub head_of : List ℕ → Head
@@ -25,29 +24,41 @@ setup_end rest = get_or rest 0 0 + 1
 abbrev pub data_end : List ℕ → ℕ
 data_end rest = setup_end rest + 2 + word_at rest (setup_end rest)
 
--- the record that the rest of a script begins with; none at the end, nor where it is cut short
-unfoldable pub record_of : List ℕ → Record
+-- a call: its setup, its data, and what follows its record
+pub record Call : Type 0 where
+  pub setup : List ℕ
+  pub «data» : List ℕ
+  pub rest : List ℕ
+
+abbrev pub call_with : List ℕ → List ℕ → List ℕ → Call
+call_with setup bytes rest = record { setup = setup; «data» = bytes; rest = rest }
+
+-- the call whose record the rest of a script begins with; none at the end, nor where the record is cut short
+unfoldable pub record_of : List ℕ → Option Call
 record_of rest =
-    cond (ltb (length rest) (setup_end rest + 2)) End
-    (cond (ltb (length rest) (data_end rest)) End (Call (setup_end rest) (data_end rest)))
+    cond (ltb (length rest) (setup_end rest + 2)) None
+    (cond (ltb (length rest) (data_end rest)) None
+    (Some
+    (call_with (take (get_or rest 0 0) (drop 1 rest)) (take (word_at rest (setup_end rest)) (drop (setup_end rest + 2) rest))
+    (drop (data_end rest) rest))))
 
 -- one call for a whole record, and those counted in what follows it; nothing where there is none
-unfoldable pub count_with : (List ℕ → ℕ) → List ℕ → Record → ℕ
-count_with count rest (Call ends next) = 1 + count (drop next rest)
-count_with count rest End = 0
+unfoldable pub count_with : (List ℕ → ℕ) → Option Call → ℕ
+count_with count (Some call) = 1 + count call.rest
+count_with count None = 0
 
 -- the calls that the rest of a script holds, up to its end or to a record that is cut short; n at most
 unfoldable pub count_from : ℕ → List ℕ → ℕ
 count_from zero rest = 0
-count_from (suc n) rest = count_with (count_from n) rest (record_of rest)
+count_from (suc n) rest = count_with (count_from n) (record_of rest)
 
--- the calls after a head of ten bytes; every record takes some bytes, so there are no more calls than bytes
-abbrev pub calls_after_head : List ℕ → ℕ
-calls_after_head script = count_from (length script) (drop 10 script)
+-- all of them; every record takes some bytes, so there are no more calls than bytes
+abbrev pub calls_in : List ℕ → ℕ
+calls_in rest = count_from (length rest) rest
 
--- the calls of a script: none where it is too short for a head
+-- the calls of a script: none where it is too short for a head of ten bytes
 unfoldable pub calls_of : List ℕ → ℕ
-calls_of script = cond (ltb (length script) 10) 0 (calls_after_head script)
+calls_of script = cond (ltb (length script) 10) 0 (calls_in (drop 10 script))
 
 -- byte i of the flash at first: a pattern, with every even-numbered block from A on erased
 unfoldable pub first_byte : ℕ → ℕ → ℕ
@@ -56,3 +67,15 @@ first_byte a i = cond (leb a (i / block_size) && eqb (i / block_size % 2) 0) 255
 -- the flash at first, of so many bytes
 unfoldable pub first_flash : ℕ → ℕ → List ℕ
 first_flash a n = values (first_byte a) 0 n
+
+-- the bytes of a script that are read at most
+abbrev pub most_bytes : ℕ
+most_bytes = 65536
+
+-- so many calls were in the bytes taken from a reader: as many bytes as are read at most, or fewer where the reader had no more
+pub record PlaysInput (before after : Option (List ℕ)) (calls : ℕ) : Type 0 where
+  pub bytes : List ℕ
+  pub taken : Consumes before after bytes
+  pub few : length bytes ≤ most_bytes
+  pub all : length bytes < most_bytes → IsAtEnd after
+  pub counted : calls ≡ calls_of bytes

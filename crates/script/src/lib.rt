@@ -2,20 +2,24 @@
 #![tactic(auto)]
 
 ghost use Rattle.std.specs.Prelude.{◌≤◌, ◌≡◌, length, IfOk};
-ghost use Rattle.script.specs.Tape.{calls_after_head, calls_of};
+ghost use Rattle.script.specs.Tape.{calls_in, calls_of, PlaysInput};
 ghost use Rattle.script.specs.Turn.{turned, turn_of};
 
 use crate::line::Line;
-use crate::tape::{Head, Record};
+use crate::tape::Head;
 use flash::Block;
 use session::Session;
 use std::io;
+use std::io::Read;
 
 mod line;
 mod tape;
 
 // The bytes of 255 blocks: as many as a head's one byte can name, whatever the most blocks of a flash are.
 const ROOM: usize = 261_120;
+
+// The bytes of a script that are read at most.
+const MOST: usize = 65_536;
 
 // A reply buffer is filled with this byte before each call, so that what a call leaves untouched is seen.
 const UNTOUCHED: u8 = 0xEE;
@@ -28,6 +32,7 @@ struct Turn {
 }
 
 // One call with a reply buffer of its own.
+#[tactic(auto, unfolding(crate::specs::Turn::turn_of, crate::specs::Turn::worth))]
 fn play_call(s: Session, flash: &mut [u8], setup: &[u8], d: &[u8]) -> Turn
     ensures { turned result flash.new ≡ turn_of s flash.old setup.now d.now }
 {
@@ -35,47 +40,41 @@ fn play_call(s: Session, flash: &mut [u8], setup: &[u8], d: &[u8]) -> Turn
     let outcome = loader::step(s, flash, setup, d, &mut reply);
     let line = line::line_of(outcome, &reply, flash);
     let session = outcome.session;
-    Turn {
-        line: line,
-        session: session,
-    }
+    Turn { line, session }
 }
 
-// The calls of a script, each with the session that the one before handed back, and how many they were.
-fn play_calls(rt: &impl Print, script: &[u8], flash: &mut [u8], first: Session) -> io::Result<usize>
-    ensures { IfOk result (λ n. n ≡ calls_after_head script.now) }
+// The calls of a script behind its head, each with the session that the one before handed back, and how many they were.
+#[tactic(auto, using(crate::proofs::Counting::none_counted, crate::proofs::Counting::all_counted))]
+fn play_calls(rt: &impl Print, calls: &[u8], flash: &mut [u8], first: Session) -> io::Result<usize>
+    ensures { IfOk result (λ n. n ≡ calls_in calls.now) }
 {
     let mut session = first;
-    let mut at = tape::HEAD;
+    let mut rest = calls;
     let mut played = 0;
-    while at < script.len() {
-        let rest = &script[at..];
-        match tape::next_record(rest) {
-            Record::Call { ends, next } => {
-                let from = ends + 2;
-                let done = play_call(session, flash, &rest[1..ends], &rest[from..next]);
-                line::show(rt, done.line)?;
-                session = done.session;
-                at += next;
-                played += 1;
-            }
-            Record::End => return Ok(played),
-        }
+    while let Some(call) = tape::next_call(rest) {
+        let done = play_call(session, flash, call.setup, call.data);
+        let line = done.line;
+        println!(rt; "{line}")?;
+        session = done.session;
+        rest = call.rest;
+        played += 1;
     }
     Ok(played)
 }
 
 // The flash as a run begins, the start, and the calls.
-fn play_from(rt: &impl Print, script: &[u8], head: Head, flash: &mut [u8]) -> io::Result<usize>
+fn play_from(rt: &impl Print, head: Head, calls: &[u8], flash: &mut [u8]) -> io::Result<usize>
     requires { length flash.old ≤ 261120 }
-    ensures { IfOk result (λ n. n ≡ calls_after_head script.now) }
+    ensures { IfOk result (λ n. n ≡ calls_in calls.now) }
 {
-    let a = head.a as u32;
-    let b = head.b as u32;
+    let a = u32::from(head.a);
+    let b = u32::from(head.b);
     tape::fill(flash, a);
     let begun = loader::start(flash, Block(a), Block(b), head.part0, head.part1);
-    line::show_start(rt, begun)?;
-    play_calls(rt, script, flash, begun.session)
+    let answer = u32::from(begun.answer);
+    let whole = begun.session.sums.whole;
+    println!(rt; "start {answer} {whole:08X}")?;
+    play_calls(rt, calls, flash, begun.session)
 }
 
 // Zeros for a flash. The contract gives their number only, since every run fills its flash first.
@@ -87,14 +86,23 @@ fn room() -> [u8; ROOM]
 
 // Plays a script, and tells how many calls it held. One that is too short for a head says nothing. An error is one of standard output,
 // and what is lent is as it was.
+#[tactic(auto, unfolding(crate::specs::Tape::calls_of))]
 pub fn play(rt: &impl Print, script: &[u8]) -> io::Result<usize>
     ensures { IfOk result (λ n. n ≡ calls_of script.now) }
 {
-    if script.len() < tape::HEAD {
+    let Some((head, calls)) = tape::read_head(script) else {
         return Ok(0);
-    }
-    let head = tape::read_head(script);
-    let n = head.b as usize * 1024;
+    };
+    let n = usize::from(head.b) * 1024;
     let mut flash = room();
-    play_from(rt, script, head, &mut flash[..n])
+    play_from(rt, head, calls, &mut flash[..n])
+}
+
+// Plays the script that a reader gives, as much of it as there is room for, and tells how many calls it held.
+pub fn play_input<R: Read>(rt: &impl Print, from: &mut R) -> io::Result<usize>
+    ensures { IfOk result (PlaysInput (R.remaining from.old) (R.remaining from.new)) }
+{
+    let mut script = [0; MOST];
+    let n = input::read_full(from, &mut script)?;
+    play(rt, &script[..n])
 }

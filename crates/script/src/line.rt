@@ -5,11 +5,11 @@ ghost use Rattle.answers.specs.Answers.{leaves};
 ghost use Rattle.script.specs.Turn.{sum_bytes, line_of};
 
 use answers::Outcome;
-use std::io;
+use std::fmt;
 use sums::MOST;
 
 // The last three are the sums of the kept block sums, of the whole reply buffer and of the flash.
-#[derive(Clone, Copy)]
+#[derive(Clone, Copy, Debug, PartialEq, Eq)]
 pub struct Line {
     answer: u32,
     count: u32,
@@ -21,16 +21,33 @@ pub struct Line {
     flash: u32,
 }
 
+impl fmt::Display for Line {
+    fn fmt<W: fmt::Write>(&self, f: &mut fmt::Formatter<W>) -> fmt::Result {
+        let Line {
+            answer,
+            count,
+            state,
+            status,
+            whole,
+            sums,
+            reply,
+            flash,
+        } = *self;
+        write!(
+            f,
+            "{answer} {count} {state} {status} {whole:08X} {sums:08X} {reply:08X} {flash:08X}"
+        )
+    }
+}
+
 // The sum of the kept block sums, four bytes each.
+#[tactic(auto, using(crate::proofs::Sums::next_sum, crate::proofs::Sums::no_sum_left), unfolding(crc::specs::Crc::crc_of))]
 fn sum_of_sums(block: &[u32; MOST]) -> u32
     ensures { result ≡ crc_of (sum_bytes block.now) }
 {
     let mut sum = crc::START;
-    let mut i = 0;
-    while i < MOST {
-        let bytes = numbers::low::<4>(block[i]);
-        sum = crc::sum_from(sum, &bytes);
-        i += 1;
+    for &kept in block {
+        sum = crc::sum_from(sum, &numbers::low::<4>(kept));
     }
     sum
 }
@@ -40,42 +57,14 @@ pub fn line_of(outcome: Outcome, reply: &[u8], flash: &[u8]) -> Line
     ensures { result ≡ line_of (leaves outcome flash.now reply.now) }
 {
     let sums = outcome.session.sums;
-    let block = sums.block;
     Line {
         answer: u32::from(outcome.answer),
         count: outcome.count,
         state: outcome.session.phase.state.0,
         status: outcome.session.phase.status.0,
         whole: sums.whole,
-        sums: sum_of_sums(&block),
+        sums: sum_of_sums(&sums.block),
         reply: crc::sum(reply),
         flash: crc::sum(flash),
     }
-}
-
-fn show_decimal(rt: &impl Print, n: u32) -> io::Result<()> {
-    rt.print(n)?;
-    rt.write_all(b" ")
-}
-
-fn show_hex(rt: &impl Print, n: u32, after: &[u8]) -> io::Result<()> {
-    rt.write_all(&print::hex8(n))?;
-    rt.write_all(after)
-}
-
-pub fn show(rt: &impl Print, line: Line) -> io::Result<()> {
-    show_decimal(rt, line.answer)?;
-    show_decimal(rt, line.count)?;
-    show_decimal(rt, line.state as u32)?;
-    show_decimal(rt, line.status as u32)?;
-    show_hex(rt, line.whole, b" ")?;
-    show_hex(rt, line.sums, b" ")?;
-    show_hex(rt, line.reply, b" ")?;
-    show_hex(rt, line.flash, b"\n")
-}
-
-pub fn show_start(rt: &impl Print, begun: Outcome) -> io::Result<()> {
-    rt.write_all(b"start ")?;
-    show_decimal(rt, u32::from(begun.answer))?;
-    show_hex(rt, begun.session.sums.whole, b"\n")
 }

@@ -1,14 +1,14 @@
 // What a script holds: a head of ten bytes, then a record for each call. And the flash that every run begins with.
-ghost use Rattle.std.specs.Prelude.{◌+◌, ◌≤◌, ◌<◌, ◌≡◌, length};
-ghost use Rattle.script.specs.Tape.{head_of, record_of, first_byte, first_flash};
+ghost use Rattle.std.specs.Prelude.{◌+◌, ◌≤◌, ◌<◌, ◌≡◌, length, drop, MatchOption, Some, None, IfSome};
+ghost use Rattle.script.specs.Tape.{head_of, call_with, record_of, first_byte, first_flash};
 
 use flash::{BLOCK, ERASED};
 
 // The bytes of a head.
-pub const HEAD: usize = 10;
+const HEAD: usize = 10;
 
 // A, B and the part numbers of a start.
-#[derive(Clone, Copy)]
+#[derive(Clone, Copy, Debug, PartialEq, Eq)]
 pub struct Head {
     pub a: u8,
     pub b: u8,
@@ -16,58 +16,46 @@ pub struct Head {
     pub part1: u32,
 }
 
-// Where in a record the setup bytes end, and where the data bytes do: the next record begins there.
+// The setup bytes and the data bytes of a call, and the rest of the script behind its record.
 #[derive(Clone, Copy)]
-pub enum Record {
-    Call { ends: usize, next: usize },
-    End,
+pub struct Call<'a> {
+    pub setup: &'a [u8],
+    pub data: &'a [u8],
+    pub rest: &'a [u8],
 }
 
-pub fn read_head(script: &[u8]) -> Head
-    requires { 10 ≤ length script.now }
-    ensures { result ≡ head_of script.now }
+// The head of a script, and what stands behind it; none where the script is too short for one.
+#[tactic(auto, unfolding(crate::specs::Tape::head_of))]
+pub fn read_head(script: &[u8]) -> Option<(Head, &[u8])>
+    ensures { MatchOption result (length script.now < 10)
+        (λ p. (10 ≤ length script.now) × (p.0 ≡ head_of script.now) × (p.1.now ≡ drop 10 script.now)) }
 {
-    let a = script[0];
-    let b = script[1];
-    let part0 = numbers::long(script, 2);
-    let part1 = numbers::long(script, 6);
-    Head {
-        a: a,
-        b: b,
-        part0: part0,
-        part1: part1,
-    }
+    let rest = script.get(HEAD..)?;
+    let head = Head {
+        a: script[0],
+        b: script[1],
+        part0: numbers::long(script, 2),
+        part1: numbers::long(script, 6),
+    };
+    Some((head, rest))
 }
 
-// Where a setup of so many bytes ends.
-fn setup_end(long: u8) -> u32
-    ensures { result ≡ long + 1 }
+// The call whose record the rest of a script begins with; none at the end, nor where the record is cut short.
+#[tactic(auto, unfolding(crate::specs::Tape::record_of))]
+pub fn next_call(script: &[u8]) -> Option<Call<'_>>
+    ensures call { MatchOption result (record_of script.now ≡ None)
+        (λ c. record_of script.now ≡ Some (call_with c.setup.now c.data.now c.rest.now)) }
+    ensures onward { IfSome result (λ c. length c.rest.now < length script.now) }
 {
-    long as u32 + 1
-}
-
-// The record that the rest of a script begins with; none at the end, nor where it is cut short.
-pub fn next_record(rest: &[u8]) -> Record
-    ensures { result ≡ record_of rest.now }
-{
-    if rest.len() < 3 {
-        return Record::End;
-    }
-    let ends = setup_end(rest[0]) as usize;
-    if rest.len() < ends + 2 {
-        return Record::End;
-    }
-    let next = ends + 2 + numbers::word(rest, ends) as usize;
-    if rest.len() < next {
-        return Record::End;
-    }
-    Record::Call {
-        ends: ends,
-        next: next,
-    }
+    let (&setup_len, rest) = script.split_first()?;
+    let (setup, rest) = rest.split_at_checked(usize::from(setup_len))?;
+    let (data_len, rest) = rest.split_first_chunk::<2>()?;
+    let (data, rest) = rest.split_at_checked(usize::from(numbers::word(data_len, 0)))?;
+    Some(Call { setup, data, rest })
 }
 
 // A pattern, with every even-numbered block of the application erased.
+#[tactic(auto, unfolding(crate::specs::Tape::first_byte))]
 fn first_byte(a: u32, i: u32) -> u8
     requires { i < 261120 }
     ensures { result ≡ first_byte a i }
@@ -79,13 +67,12 @@ fn first_byte(a: u32, i: u32) -> u8
     ((i * 7 + i / 256) % 251) as u8
 }
 
+#[tactic(auto, using(crc::proofs::Values::values_of), unfolding(crate::specs::Tape::first_flash))]
 pub fn fill(flash: &mut [u8], a: u32)
     requires { length flash.old ≤ 261120 }
     ensures { flash.new ≡ first_flash a (length flash.old) }
 {
-    let mut i = 0;
-    while i < flash.len() {
-        flash[i] = first_byte(a, i as u32);
-        i += 1;
+    for (i, byte) in flash.iter_mut().enumerate() {
+        *byte = first_byte(a, i as u32);
     }
 }

@@ -1,12 +1,10 @@
--- Each record lies in what is left of the script, takes some of it and counts one: so there is an end, where all were counted.
-use Prim.Native.Nat.{◌-◌}
-use mathlib.Core.Path.{◌≡◌}
-use lib.ListN.{length}
+-- What is left of the script's calls is less after each of them, and with those that were played it makes all of them.
+use Rattle.std.proofs.Common.{length}
 use Rattle.script.proofs.Counting.{Counted}
 use Rattle.script.proofs.play_calls.Given as goal
 
-abbrev pub invariant-loop-at : goal.invariant-loop-at
-invariant-loop-at g l = (length l.flash ≡ length l.initial.flash) × Counted l.script l.at l.played
+abbrev pub invariant-loop-call : goal.invariant-loop-call
+invariant-loop-call g l = Counted l.calls l.rest l.played
 
-abbrev pub decreases-loop-at : goal.decreases-loop-at
-decreases-loop-at g l = length l.script - l.at
+abbrev pub decreases-loop-call : goal.decreases-loop-call
+decreases-loop-call g l = length l.rest

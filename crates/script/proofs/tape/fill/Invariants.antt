@@ -1,12 +1,7 @@
--- The invariant: the places passed hold their values.
-use Prim.Native.Nat.{◌-◌, ◌≤◌}
-use lib.ListN.{length}
+-- The places passed hold their values.
+use Rattle.std.proofs.Common.{ℕ, ◌<◌, ◌≡◌, get_or}
 use Rattle.script.specs.Tape.{first_byte}
-use Rattle.script.proofs.Filling.{Filled}
 use Rattle.script.proofs.tape.fill.Given as goal
 
 abbrev pub invariant-loop-i : goal.invariant-loop-i
-invariant-loop-i l = (l.i ≤ length l.initial.flash) × Filled (first_byte l.a) (length l.initial.flash) l.flash l.i
-
-abbrev pub decreases-loop-i : goal.decreases-loop-i
-decreases-loop-i l = length l.initial.flash - l.i
+invariant-loop-i l = (k : ℕ) → k < l.i → get_or l.flash k 0 ≡ first_byte l.a k
