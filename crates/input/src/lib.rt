@@ -14,6 +14,7 @@ pub fn read_full<R: Read>(from: &mut R, buf: &mut [u8]) -> io::Result<usize>
     ensures bytes { IfOk result (λ n. Consumes (R.remaining from.old) (R.remaining from.new) (take n buf.new)) }
     ensures all { IfOk result (λ n. n < length buf.new → IsAtEnd (R.remaining from.new)) }
 {
+    // A loop of its own: the library's `read_exact` fails where the reader ends before the buffer, and `read_to_end` wants heap.
     let mut done = 0;
     while done < buf.len() {
         let n = from.read(&mut buf[done..])?;

@@ -48,6 +48,7 @@ fn play_call(s: Session, flash: &mut [u8], setup: &[u8], d: &[u8]) -> Turn
 fn play_calls(rt: &impl Print, calls: &[u8], flash: &mut [u8], first: Session) -> io::Result<usize>
     ensures { IfOk result (λ n. n ≡ calls_in calls.now) }
 {
+    // Counted as they are played, and no chain: each call hands its session to the next, and `?` leaves where a line can't be written.
     let mut session = first;
     let mut rest = calls;
     let mut played = 0;
@@ -98,7 +99,8 @@ pub fn play(rt: &impl Print, script: &[u8]) -> io::Result<usize>
     play_from(rt, head, calls, &mut flash[..n])
 }
 
-// Plays the script that a reader gives, as much of it as there is room for, and tells how many calls it held.
+// Plays the script that a reader gives, as much of it as there is room for, and tells how many calls it held. What the reader has left
+// after an error is open.
 pub fn play_input<R: Read>(rt: &impl Print, from: &mut R) -> io::Result<usize>
     ensures { IfOk result (PlaysInput (R.remaining from.old) (R.remaining from.new)) }
 {
