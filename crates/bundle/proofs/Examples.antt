@@ -6,9 +6,10 @@ use mathlib.Core.List.{List, [], ◌∷◌, ◌++◌}
 use mathlib.Core.Path.{◌≡◌, refl}
 use native.Mathlib.Omega.{arith}
 use lib.ListN.{get_or, take, set, replicate}
-use Rattle.bundle.specs.declared.Reading.TheVariants.{Bundle, Short, Count, Table, Offset, Empty, Past, LeftOver}
-use Rattle.bundle.specs.declared.Writing.TheVariants.{Wrote, WrongCount, EmptyImage, NoRoom, WrongLengths}
-use Rattle.bundle.specs.Bundle.{entries_of, bundle_of, read_from, read_of, images_in, part_of, image_of, has_empty, fits_in, total, left, write_of}
+use Rattle.bundle.specs.declared.Refusal.TheVariants.{Short, Count, Table, Offset, Empty, Past, LeftOver}
+use Rattle.std.specs.Prelude.{Ok, Err}
+use Rattle.bundle.specs.declared.Unwritten.TheVariants.{WrongCount, EmptyImage, NoRoom, WrongLengths}
+use Rattle.bundle.specs.Bundle.{entries_of, bundle_of, read_from, read_of, part_of, image_of, fits_in, total, left, write_of}
 use Rattle.bundle.specs.Claims.{Legal, bundled}
 
 -- the ASCII bytes 123456789
@@ -22,23 +23,23 @@ pub written_example : bundled (digits ∷ []) ≡ file
 unfolding bundle_of entries_of
 written_example = refl
 
-pub read_example : read_of file ≡ Bundle 1
+pub read_example : read_of file ≡ Ok 1
 unfolding read_of read_from
 read_example = refl
 
 pub image_example : image_of file 0 ≡ digits
-unfolding read_of read_from images_in part_of image_of
+unfolding read_of read_from part_of image_of
 image_example = refl
 
 pub record Refusals : Type 0 where
-  short : read_of (take 1 file) ≡ Short
-  no_image : read_of (set file 0 0) ≡ Count
-  too_many : read_of (set file 0 33) ≡ Count
-  table : read_of (take 9 file) ≡ Table
-  offset : read_of (set file 2 11) ≡ Offset
-  empty : read_of (set file 6 0) ≡ Empty
-  past : read_of (set file 6 10) ≡ Past
-  left_over : read_of (set file 6 8) ≡ LeftOver
+  short : read_of (take 1 file) ≡ Err Short
+  no_image : read_of (set file 0 0) ≡ Err Count
+  too_many : read_of (set file 0 33) ≡ Err Count
+  table : read_of (take 9 file) ≡ Err Table
+  offset : read_of (set file 2 11) ≡ Err Offset
+  empty : read_of (set file 6 0) ≡ Err Empty
+  past : read_of (set file 6 10) ≡ Err Past
+  left_over : read_of (set file 6 8) ≡ Err LeftOver
 
 pub refusal_examples : Refusals
 unfolding read_of read_from
@@ -60,7 +61,7 @@ pub record Borders : Type 0 where
   too_long : fits_in (2 ^ 33) 10 ((2 ^ 32) ∷ []) ≡ false
   farthest : fits_in (2 ^ 33) 18 ((2 ^ 32 - 19) ∷ 1 ∷ []) ≡ true
   too_far : fits_in (2 ^ 33) 18 ((2 ^ 32 - 18) ∷ 1 ∷ []) ≡ false
-  most : read_of (bundled (replicate 32 (7 ∷ []))) ≡ Bundle 32
+  most : read_of (bundled (replicate 32 (7 ∷ []))) ≡ Ok 32
 
 pub border_examples : Borders
 unfolding fits_in bundle_of entries_of read_of read_from
@@ -68,15 +69,15 @@ border_examples = record { longest = refl; too_long = refl; farthest = refl; too
 
 -- the writer: each refusal, the first of those that hold, and what it writes
 pub record Writings : Type 0 where
-  no_image : write_of [] [] [] ≡ left WrongCount []
-  too_many : write_of (replicate 33 0) [] [] ≡ left WrongCount []
-  empty : write_of (9 ∷ 0 ∷ []) digits [] ≡ left EmptyImage []
-  no_room : write_of (9 ∷ []) [] (replicate 18 255) ≡ left NoRoom (replicate 18 255)
-  lengths : write_of (8 ∷ []) digits (replicate 19 255) ≡ left WrongLengths (replicate 19 255)
-  written : write_of (9 ∷ []) digits (replicate 20 255) ≡ left (Wrote 19) (file ++ 255 ∷ [])
+  no_image : write_of [] [] [] ≡ left (Err WrongCount) []
+  too_many : write_of (replicate 33 0) [] [] ≡ left (Err WrongCount) []
+  empty : write_of (9 ∷ 0 ∷ []) digits [] ≡ left (Err EmptyImage) []
+  no_room : write_of (9 ∷ []) [] (replicate 18 255) ≡ left (Err NoRoom) (replicate 18 255)
+  lengths : write_of (8 ∷ []) digits (replicate 19 255) ≡ left (Err WrongLengths) (replicate 19 255)
+  written : write_of (9 ∷ []) digits (replicate 20 255) ≡ left (Ok 19) (file ++ 255 ∷ [])
 
 pub writing_examples : Writings
-unfolding has_empty fits_in total bundle_of entries_of write_of
+unfolding fits_in total bundle_of entries_of write_of
 writing_examples =
     record { no_image = refl; too_many = refl; empty = refl; no_room = refl; lengths = refl; written = refl }
 

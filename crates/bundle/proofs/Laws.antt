@@ -13,9 +13,16 @@ use Rattle.numbers.specs.Numbers.{bytes2, bytes4}
 use Rattle.pieces.specs.Pieces.{placed, Laid}
 use Rattle.pieces.proofs.Laws.{laid_more, laid_front}
 use Rattle.pieces.proofs.Tests.{Tells, both, at_most, neither, either_way}
-use Rattle.bundle.specs.declared.Writing.{Writing}
-use Rattle.bundle.specs.declared.Writing.TheVariants.{Wrote, WrongCount, EmptyImage, NoRoom, WrongLengths}
-use Rattle.bundle.specs.Bundle.{most_images, can_count, head_size, has_empty, fits_in, total, size_of, entries_of, bundle_of, Writable, left, write_of, bytes_written}
+use Rattle.bundle.specs.declared.Unwritten.TheVariants.{WrongCount, EmptyImage, NoRoom, WrongLengths}
+use Rattle.std.specs.Prelude.{Ok, Err, sum}
+use Rattle.std.proofs.lemmas.List.Sums.{sum_by-cons}
+use Rattle.bundle.specs.Bundle.{most_images, can_count, head_size, has_empty, fits_in, total, size_of, entries_of, bundle_of, Writable, left, write_of}
+
+-- the library's sum is the total
+pub sum_is_total : (l : List ℕ) → sum l ≡ total l
+unfolding total
+sum_is_total [] = refl
+sum_is_total (n ∷ l) = sum_by-cons (λ (x : ℕ). x) n l ∙ ap (λ (m : ℕ). n + m) (sum_is_total l)
 
 -- how many images a bundle may have
 pub count_tells : (n : ℕ) → Tells (can_count n) ((1 ≤ n) × (n ≤ most_images))
@@ -23,31 +30,11 @@ count_tells n = both _ _ _ _ (at_most 1 n) (at_most n most_images)
 
 -- the numbers from place k on are the one there and those behind it; at the end there is none
 module _ (l : List ℕ) (k : ℕ) where
-  next : k < length l → drop k l ≡ get_or l k 0 ∷ drop (k + 1) l
+  pub next : k < length l → drop k l ≡ get_or l k 0 ∷ drop (k + 1) l
   next h = drop-cons l k 0 h ∙ ap (λ (i : ℕ). get_or l k 0 ∷ drop i l) (sym (add-one k))
 
-  none : length l ≤ k → drop k l ≡ []
+  pub none : length l ≤ k → drop k l ≡ []
   none h = drop_of_length-le l h
-
-  pub empty_here : k < length l → get_or l k 0 ≡ 0 → has_empty (drop k l) ≡ true
-  unfolding has_empty
-  empty_here h z = ap has_empty (next h) ∙ rw (eq-eqb (get_or l k 0) 0 z)
-
-  pub empty_later : k < length l → (get_or l k 0 ≡ 0 → ⊥) → has_empty (drop k l) ≡ has_empty (drop (k + 1) l)
-  unfolding has_empty
-  empty_later h z = ap has_empty (next h) ∙ rw (ne_eqb (get_or l k 0) 0 z)
-
-  pub empty_none : length l ≤ k → has_empty (drop k l) ≡ false
-  unfolding has_empty
-  empty_none h = ap has_empty (none h)
-
-  pub total_next : k < length l → total (drop k l) ≡ get_or l k 0 + total (drop (k + 1) l)
-  unfolding total
-  total_next h = ap total (next h)
-
-  pub total_none : length l ≤ k → total (drop k l) ≡ 0
-  unfolding total
-  total_none h = ap total (none h)
 
   pub entries_next :
       (at : ℕ) (bytes : List ℕ) → k < length l → bytes ≡ bytes4 at ++ bytes4 (get_or l k 0)
@@ -127,40 +114,31 @@ laid_bundle l images two b b1 b2 b3 n1 n2 n3 is count entries rest =
 
 -- what a writing comes to, test by test
 module _ (l images buffer : List ℕ) where
-  pub wrong_count : can_count (length l) ≡ false → write_of l images buffer ≡ left WrongCount buffer
+  pub wrong_count : can_count (length l) ≡ false → write_of l images buffer ≡ left (Err WrongCount) buffer
   unfolding write_of
   wrong_count c = rw c
 
   module _ (c : can_count (length l) ≡ true) where
-    pub empty_image : has_empty l ≡ true → write_of l images buffer ≡ left EmptyImage buffer
+    pub empty_image : has_empty l ≡ true → write_of l images buffer ≡ left (Err EmptyImage) buffer
     unfolding write_of
     empty_image e = rw (c, e)
 
     module _ (e : has_empty l ≡ false) where
-      pub no_room : fits_in (length buffer) (head_size (length l)) l ≡ false → write_of l images buffer ≡ left NoRoom buffer
+      pub no_room : fits_in (length buffer) (head_size (length l)) l ≡ false → write_of l images buffer ≡ left (Err NoRoom) buffer
       unfolding write_of
       no_room f = rw (c, e, f)
 
       module _ (f : fits_in (length buffer) (head_size (length l)) l ≡ true) where
-        pub wrong_lengths : (total l ≡ length images → ⊥) → write_of l images buffer ≡ left WrongLengths buffer
+        pub wrong_lengths : (total l ≡ length images → ⊥) → write_of l images buffer ≡ left (Err WrongLengths) buffer
         unfolding write_of
         wrong_lengths t = rw (c, e, f, ne_eqb (total l) (length images) t)
 
         pub wrote :
             total l ≡ length images → (after : List ℕ) (n : ℕ) → Laid buffer after 0 n (bundle_of l images)
-            → write_of l images buffer ≡ left (Wrote n) after
+            → write_of l images buffer ≡ left (Ok n) after
         unfolding write_of
         wrote t after n laid =
             let size : size_of l ≡ n = omega (arith, laid.behind, bundle_long l images) in
             rw (c, e, f, eq-eqb (total l) (length images) t)
-            (ap (λ (k : ℕ). left (Wrote k) (bundle_of l images ++ drop k buffer)) size
-            ∙ ap (left (Wrote n)) (sym (laid_front buffer after n (bundle_of l images) laid)))
-
--- what is not written has no bytes
-pub none_written : (w : Writing) → ((n : ℕ) → w ≡ Wrote n → ⊥) → 0 ≡ bytes_written w
-unfolding bytes_written
-none_written (Wrote n) h = absurd (h n refl)
-none_written WrongCount h = refl
-none_written EmptyImage h = refl
-none_written NoRoom h = refl
-none_written WrongLengths h = refl
+            (ap (λ (k : ℕ). left (Ok k) (bundle_of l images ++ drop k buffer)) size
+            ∙ ap (left (Ok n)) (sym (laid_front buffer after n (bundle_of l images) laid)))

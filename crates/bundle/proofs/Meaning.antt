@@ -11,9 +11,9 @@ use lib.ListN.{length}
 use borrow.Author.Tests.{eqb-true, eqb-false}
 use Rattle.pieces.proofs.Tests.{tells_no, isnt, either_way}
 use Rattle.bundle.specs.declared.Entry.{Entry}
-use Rattle.bundle.specs.declared.Reading.{Reading}
-use Rattle.bundle.specs.declared.Reading.TheVariants.{Bundle, Short, Count, Table, Offset, Empty, Past, LeftOver}
-use Rattle.bundle.specs.Bundle.{most_images, can_count, head_size, entry_at, end_of, read_from, read_of, images_in}
+use Rattle.bundle.specs.declared.Refusal.TheVariants.{Short, Count, Table, Offset, Empty, Past, LeftOver}
+use Rattle.std.specs.Prelude.{Ok, Err}
+use Rattle.bundle.specs.Bundle.{most_images, can_count, head_size, entry_at, end_of, Reading, read_from, read_of, images_in}
 use Rattle.bundle.specs.Claims.{count, start, LongEnough, CountGood, TableThere, Headed, InPlace}
 use Rattle.bundle.specs.Claims.{EntryGood, GoodBelow, AtEntry, Says}
 use Rattle.bundle.proofs.Laws.{count_tells}
@@ -26,14 +26,8 @@ pub record AllGood (bytes : List ℕ) : Type 0 where
   pub ends : start bytes (count bytes) ≡ length bytes
 
 abbrev pub Means : Reading → List ℕ → Type 0
-Means (Bundle n) bytes = AllGood bytes × (n ≡ count bytes)
-Means Short bytes = Says Short bytes
-Means Count bytes = Says Count bytes
-Means Table bytes = Says Table bytes
-Means Offset bytes = Says Offset bytes
-Means Empty bytes = Says Empty bytes
-Means Past bytes = Says Past bytes
-Means LeftOver bytes = Says LeftOver bytes
+Means (Ok n) bytes = AllGood bytes × (n ≡ count bytes)
+Means (Err r) bytes = Says (Err r) bytes
 
 -- one more good entry
 good_more : (bytes : List ℕ) (k : ℕ) → GoodBelow bytes k → EntryGood bytes k → GoodBelow bytes (suc k)
@@ -71,9 +65,9 @@ module _ (bytes : List ℕ) (headed : Headed bytes) where
       let end : start bytes (count bytes) ≡ at = ap (start bytes) all ∙ sym from in
       let below : GoodBelow bytes (count bytes) = subst (GoodBelow bytes) (sym all) good in
       elim (dec_lt at (length bytes)) [
-        | yes l ↦ found bytes _ LeftOver (at_left_over bytes (count bytes) 0 k at refl l) (headed, below, omega arith)
+        | yes l ↦ found bytes _ (Err LeftOver) (at_left_over bytes (count bytes) 0 k at refl l) (headed, below, omega arith)
         | no l ↦
-            found bytes _ (Bundle (count bytes)) (at_end bytes (count bytes) 0 k at refl (omega arith))
+            found bytes _ (Ok (count bytes)) (at_end bytes (count bytes) 0 k at refl (omega arith))
             (record { headed = headed; good = below; ends = omega arith }, refl)
       ]
   walk (suc left) k at sum from inside good =
@@ -87,14 +81,14 @@ module _ (bytes : List ℕ) (headed : Headed bytes) where
       either_way (eqb e.length 0)
       (λ none.
       let z : e.length ≡ 0 = eqb-true e.length 0 none in
-      found bytes _ Empty (at_empty bytes n (suc left) left k at e refl refl o z)
+      found bytes _ (Err Empty) (at_empty bytes n (suc left) left k at e refl refl o z)
       (at_entry k there good (in_place o, λ h. omega arith)))
       (λ some.
       let z : e.length ≡ 0 → ⊥ = eqb-false e.length 0 some in
       let one : 1 ≤ e.length = positive e.length z in
       elim (dec_lt (length bytes) (end_of e)) [
         | yes l ↦
-            found bytes _ Past (at_past bytes n (suc left) left k at e refl refl o z (end_of e) refl l)
+            found bytes _ (Err Past) (at_past bytes n (suc left) left k at e refl refl o z (end_of e) refl l)
             (at_entry k there good (in_place o, one, λ h. omega arith))
         | no l ↦
             found bytes _ _ (passed bytes n (suc left) left k at e refl refl o z (end_of e) refl (omega arith))
@@ -104,7 +98,7 @@ module _ (bytes : List ℕ) (headed : Headed bytes) where
       ]))
       (λ other.
       let o : e.offset ≡ at → ⊥ = eqb-false e.offset at other in
-      found bytes _ Offset (at_offset bytes n (suc left) left k at e refl refl o)
+      found bytes _ (Err Offset) (at_offset bytes n (suc left) left k at e refl refl o)
       (at_entry k there good (λ p. o (p ∙ sym from))))
 
 -- any bytes: the head first
@@ -113,33 +107,26 @@ unfolding start
 means bytes =
     let n : ℕ = count bytes in
     elim (dec_lt (length bytes) 2) [
-      | yes l ↦ found bytes _ Short (at_short bytes l) (λ h. omega arith)
+      | yes l ↦ found bytes _ (Err Short) (at_short bytes l) (λ h. omega arith)
       | no l ↦
           let two : LongEnough bytes = omega arith in
           either_way (can_count n)
           (λ c.
           let good : CountGood bytes = (count_tells n).yes c in
           elim (dec_lt (length bytes) (head_size n)) [
-            | yes t ↦ found bytes _ Table (at_table bytes n two refl c t) (two, good, λ h. omega arith)
+            | yes t ↦ found bytes _ (Err Table) (at_table bytes n two refl c t) (two, good, λ h. omega arith)
             | no t ↦
                 let headed : Headed bytes = record { long_enough = two; count_good = good; table_there = omega arith } in
                 found bytes _ _ (at_entries bytes n two refl c (omega arith))
                 (walk bytes headed n 0 (head_size n) (omega arith) refl (omega arith) (λ j h. absurd (omega arith)))
           ])
-          (λ c. found bytes _ Count (at_count bytes n two refl c) (two, tells_no (can_count n) _ (count_tells n) c))
+          (λ c. found bytes _ (Err Count) (at_count bytes n two refl c) (two, tells_no (can_count n) _ (count_tells n) c))
     ]
 
 -- so what an accepted file says of an image below its count can be relied on
 accepted : (bytes : List ℕ) (r : Reading) → Means r bytes → (k : ℕ) → k < images_in r → AllGood bytes × (k < count bytes)
-unfolding images_in
-accepted bytes (Bundle n) m k h = let e : n ≡ count bytes = m.1 in (m.0, omega arith)
-accepted bytes Short m k h = absurd (omega arith)
-accepted bytes Count m k h = absurd (omega arith)
-accepted bytes Table m k h = absurd (omega arith)
-accepted bytes Offset m k h = absurd (omega arith)
-accepted bytes Empty m k h = absurd (omega arith)
-accepted bytes Past m k h = absurd (omega arith)
-accepted bytes LeftOver m k h = absurd (omega arith)
+accepted bytes (Ok n) m k h = let e : n ≡ count bytes = m.1 in (m.0, omega arith)
+accepted bytes (Err r) m k h = absurd (omega arith)
 
 pub accepted_good : (bytes : List ℕ) (k : ℕ) → k < images_in (read_of bytes) → AllGood bytes × (k < count bytes)
 accepted_good bytes k h = accepted bytes (read_of bytes) (means bytes) k h
@@ -207,21 +194,21 @@ module _ (bytes : List ℕ) {Wrong : ℕ → Type 0} (a : AtEntry bytes Wrong) w
   more = omega (arith, a.there)
 
 pub given : (bytes : List ℕ) (r : Reading) → Means r bytes → read_of bytes ≡ r
-given bytes (Bundle n) m =
+given bytes (Ok n) m =
     let all : AllGood bytes = m.0 in
     reach bytes all.headed (count bytes) (omega arith) all.good
     ∙ at_end bytes (count bytes) _ (count bytes) _ (omega arith) (omega (arith, all.ends))
-    ∙ ap Bundle (sym m.1)
-given bytes Short h = at_short bytes (omega (arith, below 2 (length bytes) h))
-given bytes Count h = at_count bytes (count bytes) h.0 refl (isnt _ _ (count_tells (count bytes)) h.1)
-given bytes Table h =
+    ∙ ap Ok (sym m.1)
+given bytes (Err Short) h = at_short bytes (omega (arith, below 2 (length bytes) h))
+given bytes (Err Count) h = at_count bytes (count bytes) h.0 refl (isnt _ _ (count_tells (count bytes)) h.1)
+given bytes (Err Table) h =
     at_table bytes (count bytes) h.0 refl ((count_tells (count bytes)).is h.1) (below (head_size (count bytes)) (length bytes) h.2)
-given bytes Offset a = here bytes a ∙ at_offset bytes _ _ _ a.entry _ _ (more bytes a) refl a.wrong
-given bytes Empty a =
+given bytes (Err Offset) a = here bytes a ∙ at_offset bytes _ _ _ a.entry _ _ (more bytes a) refl a.wrong
+given bytes (Err Empty) a =
     here bytes a ∙ at_empty bytes _ _ _ a.entry _ _ (more bytes a) refl a.wrong.0 (nothing _ a.wrong.1)
-given bytes Past a =
+given bytes (Err Past) a =
     here bytes a
     ∙ at_past bytes _ _ _ a.entry _ _ (more bytes a) refl a.wrong.0 (nonzero _ a.wrong.1) _ refl (below _ (length bytes) a.wrong.2)
-given bytes LeftOver h =
+given bytes (Err LeftOver) h =
     reach bytes h.0 (count bytes) (omega arith) h.1
     ∙ at_left_over bytes (count bytes) _ (count bytes) _ (omega arith) h.2

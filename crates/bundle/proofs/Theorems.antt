@@ -14,10 +14,8 @@ use Rattle.pieces.specs.Claims.{Bytes}
 use Rattle.pieces.proofs.Tests.{isnt, tells_no, either_way}
 use Rattle.bundle.specs.declared.Entry.{Entry}
 use Rattle.bundle.specs.declared.Part.{Part}
-use Rattle.bundle.specs.declared.Reading.{Reading}
-use Rattle.bundle.specs.declared.Reading.TheVariants.{Bundle, Short, Count, Table, Offset, Empty, Past, LeftOver}
-use Rattle.bundle.specs.declared.Writing.TheVariants.{Wrote}
-use Rattle.bundle.specs.Bundle.{can_count, head_size, entries_of, bundle_of, read_of, images_in, image_of}
+use Rattle.std.specs.Prelude.{Ok, Err}
+use Rattle.bundle.specs.Bundle.{can_count, head_size, entries_of, bundle_of, Reading, read_of, images_in, image_of}
 use Rattle.bundle.specs.Bundle.{has_empty, fits_in, total, size_of, left, write_of}
 use Rattle.bundle.specs.Claims.{lengths_of, joined, Counted, Full, Narrow, Legal, bundled, count, BundleWith, Says, Fits}
 use Rattle.bundle.specs.Claims.{AcceptsExactly, OneReader, HandsBack, OneHandsBack, WritesExactly, OneWriter}
@@ -34,28 +32,16 @@ use Rattle.bundle.proofs.Writes.{counted_tells, full_tells, fits_tells, Taken, a
 
 -- what a reading means is what it says, by lists of images
 says : (bytes : List ℕ) → Bytes bytes → (r : Reading) → Means r bytes → Says r bytes
-says bytes b (Bundle n) m = subst (BundleWith bytes) (sym m.1) (bundle_with bytes b m.0)
-says bytes b Short m = m
-says bytes b Count m = m
-says bytes b Table m = m
-says bytes b Offset m = m
-says bytes b Empty m = m
-says bytes b Past m = m
-says bytes b LeftOver m = m
+says bytes b (Ok n) m = subst (BundleWith bytes) (sym m.1) (bundle_with bytes b m.0)
+says bytes b (Err r) m = m
 
 said : (bytes : List ℕ) (r : Reading) → Says r bytes → Means r bytes
-said bytes (Bundle n) w =
+said bytes (Ok n) w =
     let images = w.images in (
       subst AllGood (sym w.made) (all_good images w.legal),
       sym w.many ∙ sym (lengths_many images) ∙ sym (count_is images w.legal) ∙ ap count (sym w.made),
     )
-said bytes Short m = m
-said bytes Count m = m
-said bytes Table m = m
-said bytes Offset m = m
-said bytes Empty m = m
-said bytes Past m = m
-said bytes LeftOver m = m
+said bytes (Err r) m = m
 
 pub accepts_exactly : AcceptsExactly read_of
 accepts_exactly bytes b r =
@@ -69,13 +55,12 @@ one_reader read exactly bytes b = (exactly bytes b (read_of bytes)).back (says b
 
 -- ---- the images
 
-read-bundled : (images : List (List ℕ)) → Legal images → read_of (bundled images) ≡ Bundle (length images)
+pub read-bundled : (images : List (List ℕ)) → Legal images → read_of (bundled images) ≡ Ok (length images)
 read-bundled images legal =
-    given (bundled images) (Bundle (length images))
-    (said (bundled images) (Bundle (length images)) (record { images = images; made = refl; many = refl; legal = legal }))
+    given (bundled images) (Ok (length images))
+    (said (bundled images) (Ok (length images)) (record { images = images; made = refl; many = refl; legal = legal }))
 
 pub images_counted : (images : List (List ℕ)) → Legal images → images_in (read_of (bundled images)) ≡ length images
-unfolding images_in
 images_counted images legal = ap images_in (read-bundled images legal)
 
 -- no bytes where there is no image
@@ -145,7 +130,7 @@ one_hands_back image hands bytes b k =
 wrote_bundle :
     (images : List (List ℕ)) (buffer : List ℕ) → Legal images → length (bundled images) ≤ length buffer
     → write_of (lengths_of images) (joined images) buffer
-    ≡ left (Wrote (length (bundled images))) (bundled images ++ drop (length (bundled images)) buffer)
+    ≡ left (Ok (length (bundled images))) (bundled images ++ drop (length (bundled images)) buffer)
 wrote_bundle images buffer legal room =
     let l : List ℕ = lengths_of images in
     let size : length (bundled images) ≡ size_of l = size_is images legal in
@@ -154,7 +139,7 @@ wrote_bundle images buffer legal room =
     (not-true (has_empty l) ((full_tells l).is legal.full))
     ((fits_tells (length buffer) l).is fits)
     (sym (joined-long images))
-    ∙ ap (λ (n : ℕ). left (Wrote n) (bundled images ++ drop n buffer)) (sym size)
+    ∙ ap (λ (n : ℕ). left (Ok n) (bundled images ++ drop n buffer)) (sym size)
 
 pub writes_exactly : WritesExactly write_of
 writes_exactly =
@@ -240,7 +225,7 @@ read_written images buffer n e =
 held :
     (bytes : List ℕ) (images : List (List ℕ)) → Bytes bytes → Holds read_of image_of bytes images → (bytes ≡ bundled images) × Legal images
 held bytes images b h =
-    let w : BundleWith bytes (length images) = (accepts_exactly bytes b (Bundle (length images))).then h.found in
+    let w : BundleWith bytes (length images) = (accepts_exactly bytes b (Ok (length images))).then h.found in
     let same : w.images ≡ images =
     ext_get_or [] w.images images w.many
     (λ k i.
@@ -254,7 +239,7 @@ write_read bytes images buffer b h room =
     let is = held bytes images b h in
     let long : length bytes ≡ length (bundled images) = ap length is.0 in
     wrote_bundle images buffer is.1 (omega arith)
-    ∙ ap₂ (λ (n : ℕ) (x : List ℕ). left (Wrote n) (x ++ drop n buffer)) (sym long) (sym is.0)
+    ∙ ap₂ (λ (n : ℕ) (x : List ℕ). left (Ok n) (x ++ drop n buffer)) (sym long) (sym is.0)
 
 pub one_bundle : OneBundle read_of image_of write_of
 one_bundle =

@@ -8,8 +8,9 @@ use lib.Dec.{eqb}
 use lib.ListN.{length, get_or, take, drop}
 use borrow.Author.Tests.{eqb-true, eqb-false, eq-eqb, ne_eqb, le-leb, lt-leb, not-true}
 use Rattle.pieces.proofs.Tests.{Tells, alike, either_way}
-use Rattle.bundle.specs.declared.Writing.{Writing}
-use Rattle.bundle.specs.declared.Writing.TheVariants.{Wrote, WrongCount, EmptyImage, NoRoom, WrongLengths}
+use Rattle.bundle.specs.declared.Unwritten.{Unwritten}
+use Rattle.bundle.specs.declared.Unwritten.TheVariants.{WrongCount, EmptyImage, NoRoom, WrongLengths}
+use Rattle.std.specs.Prelude.{Ok, Err}
 use Rattle.bundle.specs.Bundle.{can_count, head_size, bundle_of, has_empty, fits_in, total, size_of, Left, left, write_of}
 use Rattle.bundle.specs.Claims.{Counted, Full, Fits}
 use Rattle.bundle.proofs.Laws.{count_tells, fits_on, fits_total}
@@ -26,14 +27,12 @@ first_full n l one f zero h = one
 first_full n l one f (suc k) h = f k (omega arith)
 
 no_empty : (l : List ℕ) → has_empty l ≡ false → Full l
-unfolding has_empty
 no_empty [] e = λ k h. absurd (omega arith)
 no_empty (n ∷ l) e =
     either_way (eqb n 0) (λ t. absurd (true≢false (sym (rw t refl) ∙ e)))
     (λ t. first_full n l (positive n (eqb-false n 0 t)) (no_empty l (sym (rw t refl) ∙ e)))
 
 full_so : (l : List ℕ) → Full l → has_empty l ≡ false
-unfolding has_empty
 full_so [] f = refl
 full_so (n ∷ l) f = rw (ne_eqb n 0 (nonzero n (f 0 (omega arith)))) (full_so l (λ k h. f (suc k) (omega arith)))
 
@@ -88,48 +87,40 @@ pub record Taken (l images buffer : List ℕ) (n : ℕ) : Type 0 where
 pub all_well :
     (l images buffer : List ℕ) → can_count (length l) ≡ true → has_empty l ≡ false
     → fits_in (length buffer) (head_size (length l)) l ≡ true → total l ≡ length images
-    → write_of l images buffer ≡ left (Wrote (size_of l)) (bundle_of l images ++ drop (size_of l) buffer)
+    → write_of l images buffer ≡ left (Ok (size_of l)) (bundle_of l images ++ drop (size_of l) buffer)
 unfolding write_of
 all_well l images buffer c f r t = rw (c, f, r, eq-eqb (total l) (length images) t)
 
--- one more than was written, or nothing at all
-abbrev bytes : Writing → ℕ
-bytes (Wrote n) = suc n
-bytes WrongCount = 0
-bytes EmptyImage = 0
-bytes NoRoom = 0
-bytes WrongLengths = 0
-
--- a refusal wrote nothing
-refuses : (l images buffer : List ℕ) (n : ℕ) (w : Writing) → write_of l images buffer ≡ left w buffer → bytes w ≡ 0
-    → (write_of l images buffer).result ≡ Wrote n → ⊥
-refuses l images buffer n w is none e =
-    let some : 0 ≡ suc n = sym none ∙ ap bytes (sym (ap (λ (x : Left). x.result) is) ∙ e) in omega arith
+-- what was refused wrote nothing
+refuses :
+    (l images buffer : List ℕ) (n : ℕ) (w : Unwritten) → write_of l images buffer ≡ left (Err w) buffer
+    → (write_of l images buffer).result ≡ Ok n → ⊥
+refuses l images buffer n w is e = let other : Err w ≡ Ok n = sym (ap (λ (x : Left). x.result) is) ∙ e in cc
 
 -- so what wrote something passed every test
-pub taken : (l images buffer : List ℕ) (n : ℕ) → (write_of l images buffer).result ≡ Wrote n → Taken l images buffer n
+pub taken : (l images buffer : List ℕ) (n : ℕ) → (write_of l images buffer).result ≡ Ok n → Taken l images buffer n
 taken l images buffer n e =
     either_way (can_count (length l))
     (λ c.
-    either_way (has_empty l) (λ f. absurd (refuses l images buffer n EmptyImage (laws.empty_image l images buffer c f) refl e))
+    either_way (has_empty l) (λ f. absurd (refuses l images buffer n EmptyImage (laws.empty_image l images buffer c f) e))
     (λ f.
     either_way (fits_in (length buffer) (head_size (length l)) l)
     (λ r.
     either_way (eqb (total l) (length images))
     (λ t.
     let adds : total l ≡ length images = eqb-true (total l) (length images) t in
-    let done : write_of l images buffer ≡ left (Wrote (size_of l)) (bundle_of l images ++ drop (size_of l) buffer) = all_well l images buffer c f r adds in
-    let size : suc (size_of l) ≡ suc n = ap bytes (sym (ap (λ (x : Left). x.result) done) ∙ e) in
+    let done : write_of l images buffer ≡ left (Ok (size_of l)) (bundle_of l images ++ drop (size_of l) buffer) = all_well l images buffer c f r adds in
+    let size : Ok (size_of l) ≡ Ok n = sym (ap (λ (x : Left). x.result) done) ∙ e in
     record {
       counted = (counted_tells l).yes c;
       full = (full_tells l).yes (ap not f);
       fits = (fits_tells (length buffer) l).yes r;
       adds = adds;
-      size = omega arith;
+      size = cc;
       after = ap (λ (x : Left). x.buffer) done;
     })
     (λ t.
     absurd
-    (refuses l images buffer n WrongLengths (laws.wrong_lengths l images buffer c f r (eqb-false (total l) (length images) t)) refl e)))
-    (λ r. absurd (refuses l images buffer n NoRoom (laws.no_room l images buffer c f r) refl e))))
-    (λ c. absurd (refuses l images buffer n WrongCount (laws.wrong_count l images buffer c) refl e))
+    (refuses l images buffer n WrongLengths (laws.wrong_lengths l images buffer c f r (eqb-false (total l) (length images) t)) e)))
+    (λ r. absurd (refuses l images buffer n NoRoom (laws.no_room l images buffer c f r) e))))
+    (λ c. absurd (refuses l images buffer n WrongCount (laws.wrong_count l images buffer c) e))

@@ -1,12 +1,15 @@
 -- A bundle of images; what reading any bytes comes to, and what writing leaves.
 use Rattle.std.specs.Prelude.{ℕ, zero, suc, ◌+◌, ◌*◌, ◌^◌, Bool, true, false, cond, not, ◌&&◌, ◌||◌, List, [], ◌∷◌, ◌++◌, ◌≡◌, eqb, ltb, leb, length, take, drop}
+use Rattle.std.specs.Prelude.{Result, Ok, Err}
+use Rattle.std.specs.List.{list_any}
+use Rattle.std.specs.Result.{result_unwrap_or}
 use Rattle.numbers.specs.Numbers.{word_at, long_at, bytes2, bytes4}
 use Rattle.bundle.specs.declared.Entry.{Entry}
 use Rattle.bundle.specs.declared.Part.{Part}
-use Rattle.bundle.specs.declared.Reading.{Reading}
-use Rattle.bundle.specs.declared.Reading.TheVariants.{Bundle, Short, Count, Table, Offset, Empty, Past, LeftOver}
-use Rattle.bundle.specs.declared.Writing.{Writing}
-use Rattle.bundle.specs.declared.Writing.TheVariants.{Wrote, WrongCount, EmptyImage, NoRoom, WrongLengths}
+use Rattle.bundle.specs.declared.Refusal.{Refusal}
+use Rattle.bundle.specs.declared.Refusal.TheVariants.{Short, Count, Table, Offset, Empty, Past, LeftOver}
+use Rattle.bundle.specs.declared.Unwritten.{Unwritten}
+use Rattle.bundle.specs.declared.Unwritten.TheVariants.{WrongCount, EmptyImage, NoRoom, WrongLengths}
 
 -- the most images of a bundle, and whether it may have n
 abbrev pub most_images : ℕ
@@ -32,6 +35,10 @@ bundle_of lengths images = (bytes2 (length lengths) ++ entries_of (head_size (le
 
 -- ---- reading
 
+-- what a reading comes to: how many images there are, or why the file is refused
+abbrev pub Reading : Type 0
+Reading = Result ℕ Refusal
+
 -- entry k of a file
 abbrev pub entry_at : List ℕ → ℕ → Entry
 entry_at bytes k = record { offset = long_at bytes (head_size k); length = long_at bytes (head_size k + 4) }
@@ -43,11 +50,11 @@ end_of e = e.offset + e.length
 -- an entry of a file of so many bytes, where the image before it ended at a place: the first test that fails says why
 abbrev pub judged : ℕ → ℕ → Entry → Reading → Reading
 judged size at e rest =
-    cond (not (eqb e.offset at)) Offset (cond (eqb e.length 0) Empty (cond (ltb size (end_of e)) Past rest))
+    cond (not (eqb e.offset at)) (Err Offset) (cond (eqb e.length 0) (Err Empty) (cond (ltb size (end_of e)) (Err Past) rest))
 
 -- the entries from entry k on, where `left` of the n are not read yet; behind the last image nothing may be left over
 unfoldable pub read_from : List ℕ → ℕ → ℕ → ℕ → ℕ → Reading
-read_from bytes n zero k at = cond (ltb at (length bytes)) LeftOver (Bundle n)
+read_from bytes n zero k at = cond (ltb at (length bytes)) (Err LeftOver) (Ok n)
 read_from bytes n (suc left) k at =
     judged (length bytes) at (entry_at bytes k) (read_from bytes n left (k + 1) (end_of (entry_at bytes k)))
 
@@ -55,14 +62,13 @@ read_from bytes n (suc left) k at =
 unfoldable pub read_of : List ℕ → Reading
 read_of bytes =
     let n : ℕ = word_at bytes 0 in
-    cond (ltb (length bytes) 2) Short
-    (cond (not (can_count n)) Count
-    (cond (ltb (length bytes) (head_size n)) Table
+    cond (ltb (length bytes) 2) (Err Short)
+    (cond (not (can_count n)) (Err Count)
+    (cond (ltb (length bytes) (head_size n)) (Err Table)
     (read_from bytes n n 0 (head_size n))))
 
 -- the refusals by number
-abbrev pub refusal_number : Reading → ℕ
-refusal_number (Bundle n) = 0
+abbrev pub refusal_number : Refusal → ℕ
 refusal_number Short = 1
 refusal_number Count = 2
 refusal_number Table = 3
@@ -72,15 +78,8 @@ refusal_number Past = 6
 refusal_number LeftOver = 7
 
 -- the images of a bundle; none in what is refused
-unfoldable pub images_in : Reading → ℕ
-images_in (Bundle n) = n
-images_in Short = 0
-images_in Count = 0
-images_in Table = 0
-images_in Offset = 0
-images_in Empty = 0
-images_in Past = 0
-images_in LeftOver = 0
+abbrev pub images_in : Reading → ℕ
+images_in r = result_unwrap_or r 0
 
 -- where image k lies, and no bytes where there is none; and its bytes
 unfoldable pub part_of : List ℕ → ℕ → Part
@@ -93,9 +92,12 @@ image_of bytes k = take (part_of bytes k).length (drop (part_of bytes k).from by
 
 -- ---- writing
 
-unfoldable pub has_empty : List ℕ → Bool
-has_empty [] = false
-has_empty (n ∷ ns) = cond (eqb n 0) true (has_empty ns)
+-- what a writing comes to: how many bytes were written, or why none were
+abbrev pub Writing : Type 0
+Writing = Result ℕ Unwritten
+
+abbrev pub has_empty : List ℕ → Bool
+has_empty = list_any (λ n. eqb n 0)
 
 -- whether images of these lengths, end to end from a place on, have offsets and lengths of 32 bits and end within the room
 unfoldable pub fits_in : ℕ → ℕ → List ℕ → Bool
@@ -127,24 +129,15 @@ left result buffer = record { result = result; buffer = buffer }
 -- images of these lengths, which are these bytes end to end, go to the buffer's front
 unfoldable pub write_of : List ℕ → List ℕ → List ℕ → Left
 write_of lengths images buffer =
-    cond (not (can_count (length lengths))) (left WrongCount buffer)
-    (cond (has_empty lengths) (left EmptyImage buffer)
-    (cond (not (fits_in (length buffer) (head_size (length lengths)) lengths)) (left NoRoom buffer)
-    (cond (not (eqb (total lengths) (length images))) (left WrongLengths buffer)
-    (left (Wrote (size_of lengths)) (bundle_of lengths images ++ drop (size_of lengths) buffer)))))
+    cond (not (can_count (length lengths))) (left (Err WrongCount) buffer)
+    (cond (has_empty lengths) (left (Err EmptyImage) buffer)
+    (cond (not (fits_in (length buffer) (head_size (length lengths)) lengths)) (left (Err NoRoom) buffer)
+    (cond (not (eqb (total lengths) (length images))) (left (Err WrongLengths) buffer)
+    (left (Ok (size_of lengths)) (bundle_of lengths images ++ drop (size_of lengths) buffer)))))
 
 -- what stood in the way, by number
-abbrev pub unwritten_number : Writing → ℕ
-unwritten_number (Wrote n) = 0
+abbrev pub unwritten_number : Unwritten → ℕ
 unwritten_number WrongCount = 1
 unwritten_number EmptyImage = 2
 unwritten_number NoRoom = 3
 unwritten_number WrongLengths = 4
-
--- how many bytes it wrote
-unfoldable pub bytes_written : Writing → ℕ
-bytes_written (Wrote n) = n
-bytes_written WrongCount = 0
-bytes_written EmptyImage = 0
-bytes_written NoRoom = 0
-bytes_written WrongLengths = 0

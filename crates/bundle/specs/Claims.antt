@@ -1,12 +1,11 @@
 -- What is promised of bundles, as claims about any reader and any writer. A bundle is here a list of images and not lengths and bytes.
-use Rattle.std.specs.Prelude.{ℕ, zero, suc, ◌+◌, ◌*◌, ◌^◌, ◌≤◌, ◌<◌, List, [], ◌∷◌, ◌++◌, ◌≡◌, length, get_or, take, drop}
+use Rattle.std.specs.Prelude.{ℕ, zero, suc, ◌+◌, ◌*◌, ◌^◌, ◌≤◌, ◌<◌, List, [], ◌∷◌, ◌++◌, ◌≡◌, length, get_or, take, drop, Ok, Err}
 use Rattle.numbers.specs.Numbers.{word_at, long_at}
 use Rattle.pieces.specs.Claims.{Bytes, Exactly}
 use Rattle.bundle.specs.declared.Part.{Part}
-use Rattle.bundle.specs.declared.Reading.{Reading}
-use Rattle.bundle.specs.declared.Reading.TheVariants.{Bundle, Short, Count, Table, Offset, Empty, Past, LeftOver}
-use Rattle.bundle.specs.declared.Writing.TheVariants.{Wrote, WrongCount, EmptyImage, NoRoom, WrongLengths}
-use Rattle.bundle.specs.Bundle.{bundle_of, total, read_of, part_of, image_of, Left, left, write_of}
+use Rattle.bundle.specs.declared.Refusal.TheVariants.{Short, Count, Table, Offset, Empty, Past, LeftOver}
+use Rattle.bundle.specs.declared.Unwritten.TheVariants.{WrongCount, EmptyImage, NoRoom, WrongLengths}
+use Rattle.bundle.specs.Bundle.{bundle_of, total, Reading, read_of, part_of, image_of, Left, left, write_of}
 
 -- ---- lists of images
 
@@ -108,14 +107,14 @@ pub record BundleWith (bytes : List ℕ) (n : ℕ) : Type 0 where
 
 -- what each reading says of the bytes: a refusal, that all before it is met and it is not
 abbrev pub Says : Reading → List ℕ → Type 0
-Says (Bundle n) bytes = BundleWith bytes n
-Says Short bytes = LongEnough bytes → ⊥
-Says Count bytes = LongEnough bytes × (CountGood bytes → ⊥)
-Says Table bytes = LongEnough bytes × CountGood bytes × (TableThere bytes → ⊥)
-Says Offset bytes = AtEntry bytes (λ k. InPlace bytes k → ⊥)
-Says Empty bytes = AtEntry bytes (λ k. InPlace bytes k × (HasBytes bytes k → ⊥))
-Says Past bytes = AtEntry bytes (λ k. InPlace bytes k × HasBytes bytes k × (Inside bytes k → ⊥))
-Says LeftOver bytes = Headed bytes × GoodBelow bytes (count bytes) × (start bytes (count bytes) < length bytes)
+Says (Ok n) bytes = BundleWith bytes n
+Says (Err Short) bytes = LongEnough bytes → ⊥
+Says (Err Count) bytes = LongEnough bytes × (CountGood bytes → ⊥)
+Says (Err Table) bytes = LongEnough bytes × CountGood bytes × (TableThere bytes → ⊥)
+Says (Err Offset) bytes = AtEntry bytes (λ k. InPlace bytes k → ⊥)
+Says (Err Empty) bytes = AtEntry bytes (λ k. InPlace bytes k × (HasBytes bytes k → ⊥))
+Says (Err Past) bytes = AtEntry bytes (λ k. InPlace bytes k × HasBytes bytes k × (Inside bytes k → ⊥))
+Says (Err LeftOver) bytes = Headed bytes × GoodBelow bytes (count bytes) × (start bytes (count bytes) < length bytes)
 
 -- a reading is given exactly where it is true
 abbrev pub AcceptsExactly : (List ℕ → Reading) → Type 0
@@ -147,20 +146,20 @@ pub record Fits (room : ℕ) (lengths : List ℕ) : Type 0 where
 -- the first thing that is wrong is told, with the buffer as it was; else the bundle is at its front, and the rest of it as it was
 pub record WritesExactly (write : List ℕ → List ℕ → List ℕ → Left) : Type 0 where
   pub wrong_count :
-      (lengths images buffer : List ℕ) → (Counted lengths → ⊥) → write lengths images buffer ≡ left WrongCount buffer
+      (lengths images buffer : List ℕ) → (Counted lengths → ⊥) → write lengths images buffer ≡ left (Err WrongCount) buffer
   pub empty_image :
       (lengths images buffer : List ℕ) → Counted lengths → (Full lengths → ⊥)
-      → write lengths images buffer ≡ left EmptyImage buffer
+      → write lengths images buffer ≡ left (Err EmptyImage) buffer
   pub no_room :
       (lengths images buffer : List ℕ) → Counted lengths → Full lengths → (Fits (length buffer) lengths → ⊥)
-      → write lengths images buffer ≡ left NoRoom buffer
+      → write lengths images buffer ≡ left (Err NoRoom) buffer
   pub wrong_lengths :
       (lengths images buffer : List ℕ) → Counted lengths → Full lengths → Fits (length buffer) lengths
-      → (total lengths ≡ length images → ⊥) → write lengths images buffer ≡ left WrongLengths buffer
+      → (total lengths ≡ length images → ⊥) → write lengths images buffer ≡ left (Err WrongLengths) buffer
   pub wrote :
       (images : List (List ℕ)) (buffer : List ℕ) → Legal images → length (bundled images) ≤ length buffer
       → write (lengths_of images) (joined images) buffer
-      ≡ left (Wrote (length (bundled images))) (bundled images ++ drop (length (bundled images)) buffer)
+      ≡ left (Ok (length (bundled images))) (bundled images ++ drop (length (bundled images)) buffer)
 
 -- no other writer does that
 abbrev pub OneWriter : Type 0
@@ -172,13 +171,13 @@ OneWriter =
 
 -- a file that is read as the bundle of these images
 pub record Holds (read : List ℕ → Reading) (image : List ℕ → ℕ → List ℕ) (bytes : List ℕ) (images : List (List ℕ)) : Type 0 where
-  pub found : read bytes ≡ Bundle (length images)
+  pub found : read bytes ≡ Ok (length images)
   pub each : (k : ℕ) → k < length images → image bytes k ≡ get_or images k []
 
 -- reading what was written gives the images back
 abbrev pub ReadWritten : (List ℕ → Reading) → (List ℕ → ℕ → List ℕ) → (List ℕ → List ℕ → List ℕ → Left) → Type 0
 ReadWritten read image write =
-    (images : List (List ℕ)) (buffer : List ℕ) (n : ℕ) → (write (lengths_of images) (joined images) buffer).result ≡ Wrote n
+    (images : List (List ℕ)) (buffer : List ℕ) (n : ℕ) → (write (lengths_of images) (joined images) buffer).result ≡ Ok n
     → Holds read image (take n (write (lengths_of images) (joined images) buffer).buffer) images
 
 -- writing what was read gives the same bytes
@@ -186,7 +185,7 @@ abbrev pub WriteRead : (List ℕ → Reading) → (List ℕ → ℕ → List ℕ
 WriteRead read image write =
     (bytes : List ℕ) (images : List (List ℕ)) (buffer : List ℕ) → Bytes bytes → Holds read image bytes images
     → length bytes ≤ length buffer
-    → write (lengths_of images) (joined images) buffer ≡ left (Wrote (length bytes)) (bytes ++ drop (length bytes) buffer)
+    → write (lengths_of images) (joined images) buffer ≡ left (Ok (length bytes)) (bytes ++ drop (length bytes) buffer)
 
 -- no two accepted files have the same images, and each list that is written has a bundle
 pub record OneBundle (read : List ℕ → Reading) (image : List ℕ → ℕ → List ℕ) (write : List ℕ → List ℕ → List ℕ → Left) : Type 0 where
@@ -194,7 +193,7 @@ pub record OneBundle (read : List ℕ → Reading) (image : List ℕ → ℕ →
       (bytes other : List ℕ) (images : List (List ℕ)) → Bytes bytes → Bytes other → Holds read image bytes images
       → Holds read image other images → bytes ≡ other
   pub has_one :
-      (images : List (List ℕ)) (buffer : List ℕ) (n : ℕ) → (write (lengths_of images) (joined images) buffer).result ≡ Wrote n
+      (images : List (List ℕ)) (buffer : List ℕ) (n : ℕ) → (write (lengths_of images) (joined images) buffer).result ≡ Ok n
       → Holds read image (bundled images) images
 
 -- no second outcome fits what the calls promise, on the refused inputs too; and no two readings are true of the same bytes

@@ -2,11 +2,14 @@
 // any bytes, and written into a lent buffer.
 #![tactic(auto)]
 
-ghost use Rattle.std.specs.Prelude.{◌+◌, ◌^◌, ◌≤◌, ◌<◌, true, ◌≡◌, ◌++◌, length};
+ghost use Rattle.std.specs.Prelude.{◌+◌, ◌^◌, ◌≤◌, ◌<◌, true, ◌≡◌, ◌++◌, length, sum};
 ghost use Rattle.numbers.specs.Numbers.{bytes4};
 ghost use Rattle.pieces.specs.Pieces.{Laid};
-ghost use Rattle.bundle.specs.Bundle.{head_size, can_count, entry_at, end_of, read_from, read_of, refusal_number, images_in, part_of, image_of};
-ghost use Rattle.bundle.specs.Bundle.{has_empty, fits_in, total, entries_of, bundle_of, Writable, left, write_of, unwritten_number, bytes_written};
+ghost use Rattle.bundle.specs.Bundle.{head_size, can_count, entry_at, end_of, judged, read_from, read_of, refusal_number, part_of, image_of};
+ghost use Rattle.bundle.specs.Bundle.{fits_in, entries_of, bundle_of, Writable, left, write_of, unwritten_number};
+
+use std::error::Error;
+use std::fmt;
 
 // The bytes of the count.
 const COUNT: usize = 2;
@@ -17,11 +20,10 @@ const MOST: usize = 32;
 // The first number past 32 bits.
 const PAST: u64 = 0x1_0000_0000;
 
-#[derive(Clone, Copy)]
-pub enum Reading {
-    // A bundle of so many images.
-    Bundle { count: usize },
-    // Refused: under 2 bytes; 0 images, or over 32; under the bytes of so many entries.
+// Why a file is no bundle.
+#[derive(Clone, Copy, Debug, PartialEq, Eq)]
+pub enum Refusal {
+    // Under 2 bytes; 0 images, or over 32; under the bytes of so many entries.
     Short,
     Count,
     Table,
@@ -33,15 +35,74 @@ pub enum Reading {
     LeftOver,
 }
 
-#[derive(Clone, Copy)]
-pub enum Writing {
-    // So many bytes at the buffer's front.
-    Wrote { count: usize },
-    // Refused: 0 images, or over 32; a length of 0; too little room, or too few bits; lengths that are not those of the bytes.
+impl fmt::Display for Refusal {
+    fn fmt<W: fmt::Write>(&self, f: &mut fmt::Formatter<W>) -> fmt::Result {
+        f.write_str(match self {
+            Refusal::Short => "too short for a count",
+            Refusal::Count => "not 1 to 32 images",
+            Refusal::Table => "too short for the entries",
+            Refusal::Offset => "an image is not where the one before it ended",
+            Refusal::Empty => "an image has no bytes",
+            Refusal::Past => "an image ends past the file",
+            Refusal::LeftOver => "bytes are left over behind the last image",
+        })
+    }
+}
+
+impl Error for Refusal {}
+
+// The number that C hears.
+impl From<Refusal> for u32 {
+    ghost from_gives = { λ refusal number. number ≡ refusal_number refusal };
+
+    fn from(refusal: Refusal) -> u32 {
+        match refusal {
+            Refusal::Short => 1,
+            Refusal::Count => 2,
+            Refusal::Table => 3,
+            Refusal::Offset => 4,
+            Refusal::Empty => 5,
+            Refusal::Past => 6,
+            Refusal::LeftOver => 7,
+        }
+    }
+}
+
+// Why images were not written.
+#[derive(Clone, Copy, Debug, PartialEq, Eq)]
+pub enum Unwritten {
+    // 0 images, or over 32; a length of 0; too little room, or too few bits; lengths that are not those of the bytes.
     WrongCount,
     EmptyImage,
     NoRoom,
     WrongLengths,
+}
+
+impl fmt::Display for Unwritten {
+    fn fmt<W: fmt::Write>(&self, f: &mut fmt::Formatter<W>) -> fmt::Result {
+        f.write_str(match self {
+            Unwritten::WrongCount => "not 1 to 32 images",
+            Unwritten::EmptyImage => "an image has no bytes",
+            Unwritten::NoRoom => "too little room, or a number past 32 bits",
+            Unwritten::WrongLengths => "the lengths are not those of the bytes",
+        })
+    }
+}
+
+impl Error for Unwritten {}
+
+// The number that C hears.
+impl From<Unwritten> for u32 {
+    ghost from_gives = { λ unwritten number. number ≡ unwritten_number unwritten };
+
+    fn from(unwritten: Unwritten) -> u32 {
+        match unwritten {
+            Unwritten::WrongCount => 1,
+            Unwritten::EmptyImage => 2,
+            Unwritten::NoRoom => 3,
+            Unwritten::WrongLengths => 4,
+        }
+    }
 }
 
 // What an entry says of its image.
@@ -53,7 +114,7 @@ struct Entry {
 
 // A part of a file: so many bytes, from one of them on.
 #[repr(C)]
-#[derive(Clone, Copy)]
+#[derive(Clone, Copy, Debug, Default, PartialEq, Eq)]
 pub struct Part {
     pub from: usize,
     pub length: usize,
@@ -62,7 +123,7 @@ pub struct Part {
 fn can_count(n: usize) -> bool
     ensures { result ≡ can_count n }
 {
-    (1 <= n) & (n <= MOST)
+    (1..=MOST).contains(&n)
 }
 
 // The bytes of the count and of n entries: where the images of n begin, and where entry n stands.
@@ -88,87 +149,69 @@ fn entry_at(file: &[u8], k: usize) -> Entry
 fn end(entry: Entry) -> u64
     ensures { result ≡ end_of entry }
 {
-    entry.offset as u64 + entry.length as u64
+    u64::from(entry.offset) + u64::from(entry.length)
 }
 
-// The entries in their order, each held to where the image before it ended.
-#[tactic(auto, using(crate::proofs::Walk::empty_at))]
-fn read_entries(file: &[u8], count: usize) -> Reading
+// An entry of a file of so many bytes, held to where the image before it ended: where its own image ends.
+fn judge(entry: Entry, at: u64, size: u64) -> Result<u64, Refusal>
+    ensures { result ≡ judged size at entry (Ok (end_of entry)) }
+{
+    if u64::from(entry.offset) != at {
+        return Err(Refusal::Offset);
+    }
+    if entry.length == 0 {
+        return Err(Refusal::Empty);
+    }
+    let end = end(entry);
+    if size < end {
+        return Err(Refusal::Past);
+    }
+    Ok(end)
+}
+
+// The entries in their order, then the end of the file.
+#[tactic(auto, using(crate::proofs::Walk::turned_away, crate::proofs::Walk::let_through), unfolding(crate::specs::Bundle::read_from))]
+fn read_entries(file: &[u8], count: usize) -> Result<usize, Refusal>
     requires { head_size count ≤ length file.now }
     ensures { result ≡ read_from file.now count count 0 (head_size count) }
 {
     let size = file.len() as u64;
     let mut at = head(count) as u64;
-    let mut k = 0;
-    while k < count {
-        let entry = entry_at(file, k);
-        if entry.offset as u64 != at {
-            return Reading::Offset;
-        }
-        if entry.length == 0 {
-            return Reading::Empty;
-        }
-        at = end(entry);
-        if size < at {
-            return Reading::Past;
-        }
-        k += 1;
+    for k in 0..count {
+        at = judge(entry_at(file, k), at, size)?;
     }
     if at < size {
-        return Reading::LeftOver;
+        return Err(Refusal::LeftOver);
     }
-    Reading::Bundle { count: count }
+    Ok(count)
 }
 
-// Any bytes are a bundle, or are refused for the first thing that is wrong.
-pub fn read(file: &[u8]) -> Reading
+// Any bytes are a bundle of so many images, or are refused for the first thing that is wrong.
+#[tactic(auto, unfolding(crate::specs::Bundle::read_of))]
+pub fn read(file: &[u8]) -> Result<usize, Refusal>
     ensures { result ≡ read_of file.now }
 {
     if file.len() < COUNT {
-        return Reading::Short;
+        return Err(Refusal::Short);
     }
     let count = numbers::word(file, 0) as usize;
     if !can_count(count) {
-        return Reading::Count;
+        return Err(Refusal::Count);
     }
     if file.len() < head(count) {
-        return Reading::Table;
+        return Err(Refusal::Table);
     }
     read_entries(file, count)
 }
 
-// The number of a refusal, and 0 for what is accepted.
-pub fn number(reading: Reading) -> u32
-    ensures { result ≡ refusal_number reading }
-{
-    match reading {
-        Reading::Bundle { count: _ } => 0,
-        Reading::Short => 1,
-        Reading::Count => 2,
-        Reading::Table => 3,
-        Reading::Offset => 4,
-        Reading::Empty => 5,
-        Reading::Past => 6,
-        Reading::LeftOver => 7,
-    }
-}
-
-// How many images were found: none in what is refused.
-pub fn images(reading: Reading) -> usize
-    ensures { result ≡ images_in reading }
-{
-    match reading {
-        Reading::Bundle { count } => count,
-        _ => 0,
-    }
-}
-
 // Where an image lies, counted from 0; no bytes where there is no such image.
+#[tactic(auto, using(crate::proofs::Meaning::image_inside), unfolding(crate::specs::Bundle::part_of))]
 pub fn part_of(file: &[u8], k: usize) -> Part
     ensures { (result ≡ part_of file.now k) × (result.from + result.length ≤ length file.now) }
 {
-    if images(read(file)) <= k {
-        return Part { from: 0, length: 0 };
+    // What is refused holds no image.
+    if read(file).unwrap_or(0) <= k {
+        return Part::default();
     }
     let entry = entry_at(file, k);
     Part {
@@ -178,6 +221,7 @@ pub fn part_of(file: &[u8], k: usize) -> Part
 }
 
 // The image itself, a part of the file.
+#[tactic(auto, unfolding(crate::specs::Bundle::image_of))]
 pub fn image(file: &[u8], k: usize) -> &[u8]
     ensures { result.now ≡ image_of file.now k }
 {
@@ -187,48 +231,27 @@ pub fn image(file: &[u8], k: usize) -> &[u8]
     &file[from..end]
 }
 
-fn has_empty(lengths: &[u64]) -> bool
-    ensures { result ≡ has_empty lengths.now }
-{
-    let mut k = 0;
-    while k < lengths.len() {
-        if lengths[k] == 0 {
-            return true;
-        }
-        k += 1;
-    }
-    false
-}
-
 // Whether a bundle's numbers have 32 bits and its bytes have room. An offset and a length of 32 bits have a sum of 33 at most.
+#[tactic(auto, using(crate::proofs::Laws::next, crate::proofs::Laws::none), unfolding(crate::specs::Bundle::fits_in))]
 fn fits_in(room: u64, lengths: &[u64]) -> bool
     requires { can_count (length lengths.now) ≡ true }
     ensures { result ≡ fits_in room (head_size (length lengths.now)) lengths.now }
 {
     let mut at = head(lengths.len()) as u64;
-    let mut k = 0;
-    while k < lengths.len() {
-        let length = lengths[k];
+    for &length in lengths {
         if (PAST <= at) | (PAST <= length) {
             return false;
         }
         at += length;
-        k += 1;
     }
     at <= room
 }
 
 fn total_of(lengths: &[u64]) -> u64
-    requires { total lengths.now < 2 ^ 64 }
-    ensures { result ≡ total lengths.now }
+    requires { sum lengths.now < 2 ^ 64 }
+    ensures { result ≡ sum lengths.now }
 {
-    let mut sum = 0;
-    let mut k = 0;
-    while k < lengths.len() {
-        sum += lengths[k];
-        k += 1;
-    }
-    sum
+    lengths.iter().sum()
 }
 
 fn entry_bytes(entry: Entry) -> [u8; 8]
@@ -249,20 +272,18 @@ fn lay_entries(lengths: &[u64], buffer: &mut [u8]) -> usize
 {
     let mut offset = head(lengths.len()) as u64;
     let mut at = COUNT;
-    let mut k = 0;
-    while k < lengths.len() {
-        let length = lengths[k];
+    for &length in lengths {
         let bytes = entry_bytes(Entry {
             offset: offset as u32,
             length: length as u32,
         });
         at = pieces::put(&bytes, buffer, at);
         offset += length;
-        k += 1;
     }
     at
 }
 
+#[tactic(auto, using(crate::proofs::Laws::writable_room, crate::proofs::Laws::entries_long))]
 fn lay(lengths: &[u64], images: &[u8], buffer: &mut [u8]) -> usize
     requires { Writable lengths.now images.now (length buffer.old) }
     ensures { Laid buffer.old buffer.new 0 result (bundle_of lengths.now images.now) }
@@ -273,46 +294,22 @@ fn lay(lengths: &[u64], images: &[u8], buffer: &mut [u8]) -> usize
     pieces::put(images, buffer, behind)
 }
 
-// The images come as their lengths, and as their bytes end to end. The bundle goes to the buffer's front.
-pub fn write(lengths: &[u64], images: &[u8], buffer: &mut [u8]) -> Writing
+// The images come as their lengths, and as their bytes end to end. The bundle goes to the buffer's front: so many bytes.
+#[tactic(auto, using(crate::proofs::Laws::fits_total, crate::proofs::Laws::sum_is_total), unfolding(crate::specs::Bundle::write_of))]
+pub fn write(lengths: &[u64], images: &[u8], buffer: &mut [u8]) -> Result<usize, Unwritten>
     ensures { left result buffer.new ≡ write_of lengths.now images.now buffer.old }
 {
     if !can_count(lengths.len()) {
-        return Writing::WrongCount;
+        return Err(Unwritten::WrongCount);
     }
-    if has_empty(lengths) {
-        return Writing::EmptyImage;
+    if lengths.contains(&0) {
+        return Err(Unwritten::EmptyImage);
     }
     if !fits_in(buffer.len() as u64, lengths) {
-        return Writing::NoRoom;
+        return Err(Unwritten::NoRoom);
     }
     if total_of(lengths) != images.len() as u64 {
-        return Writing::WrongLengths;
+        return Err(Unwritten::WrongLengths);
     }
-    Writing::Wrote {
-        count: lay(lengths, images, buffer),
-    }
-}
-
-// The number of what stood in the way of a writing, and 0 where nothing did.
-pub fn unwritten(writing: Writing) -> u32
-    ensures { result ≡ unwritten_number writing }
-{
-    match writing {
-        Writing::Wrote { count: _ } => 0,
-        Writing::WrongCount => 1,
-        Writing::EmptyImage => 2,
-        Writing::NoRoom => 3,
-        Writing::WrongLengths => 4,
-    }
-}
-
-// How many bytes were written.
-pub fn written(writing: Writing) -> usize
-    ensures { result ≡ bytes_written writing }
-{
-    match writing {
-        Writing::Wrote { count } => count,
-        _ => 0,
-    }
+    Ok(lay(lengths, images, buffer))
 }

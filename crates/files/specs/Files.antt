@@ -3,8 +3,6 @@ use Rattle.std.specs.Prelude.{ℕ, List, Ok, Err}
 use Rattle.suffix.specs.declared.Parts.{Parts}
 use Rattle.suffix.specs.declared.Refusal.{Refusal}
 use Rattle.suffix.specs.Suffix.{Reading, refusal_number, Writing, unwritten_number, Left, write_of}
-use Rattle.bundle.specs.declared.Reading as BundleReading
-use Rattle.bundle.specs.declared.Writing as BundleWriting
 use Rattle.bundle.specs.Bundle as Bundle
 use Rattle.files.specs.declared.BundleFound.{BundleFound}
 use Rattle.files.specs.declared.SuffixFound.{SuffixFound}
@@ -38,11 +36,13 @@ suffix_written file p buffer =
     at_host (told_written l.result) l.buffer
 
 -- what was found in a bundle, and what was written of one
-unfoldable pub told_bundle : BundleReading.Reading → BundleFound
-told_bundle r = record { refused = Bundle.refusal_number r; count = Bundle.images_in r }
+unfoldable pub told_bundle : Bundle.Reading → BundleFound
+told_bundle (Ok n) = record { refused = 0; count = n }
+told_bundle (Err r) = record { refused = Bundle.refusal_number r; count = 0 }
 
-unfoldable pub told_bundled : BundleWriting.Writing → Written
-told_bundled w = record { refused = Bundle.unwritten_number w; count = Bundle.bytes_written w }
+unfoldable pub told_bundled : Bundle.Writing → Written
+told_bundled (Ok n) = record { refused = 0; count = n }
+told_bundled (Err w) = record { refused = Bundle.unwritten_number w; count = 0 }
 
 unfoldable pub bundle_written : List ℕ → List ℕ → List ℕ → AtHost
 bundle_written lengths images buffer =

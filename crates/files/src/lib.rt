@@ -78,14 +78,20 @@ pub extern "C" fn mullirim_suffix_write(file: &[u8], parts: Parts, buffer: &mut 
     Written::from(suffix::write(file, parts, buffer))
 }
 
+#[tactic(auto, unfolding(crate::specs::Files::told_bundle))]
 #[unsafe(no_mangle)]
 pub extern "C" fn mullirim_bundle_read(file: &[u8]) -> BundleFound
     ensures { result ≡ told_bundle (Bundle.read_of file.now) }
 {
-    let reading = bundle::read(file);
-    BundleFound {
-        refused: bundle::number(reading),
-        count: bundle::images(reading),
+    match bundle::read(file) {
+        Ok(images) => BundleFound {
+            refused: 0,
+            count: images,
+        },
+        Err(refusal) => BundleFound {
+            refused: u32::from(refusal),
+            count: 0,
+        },
     }
 }
 
@@ -96,6 +102,7 @@ pub extern "C" fn mullirim_bundle_image(file: &[u8], k: usize) -> Part
     bundle::part_of(file, k)
 }
 
+#[tactic(auto, unfolding(crate::specs::Files::told_bundled, crate::specs::Files::bundle_written))]
 #[unsafe(no_mangle)]
 pub extern "C" fn mullirim_bundle_write(
     lengths: &[u64],
@@ -104,9 +111,14 @@ pub extern "C" fn mullirim_bundle_write(
 ) -> Written
     ensures { at_host result buffer.new ≡ bundle_written lengths.now images.now buffer.old }
 {
-    let writing = bundle::write(lengths, images, buffer);
-    Written {
-        refused: bundle::unwritten(writing),
-        count: bundle::written(writing),
+    match bundle::write(lengths, images, buffer) {
+        Ok(bytes) => Written {
+            refused: 0,
+            count: bytes,
+        },
+        Err(unwritten) => Written {
+            refused: u32::from(unwritten),
+            count: 0,
+        },
     }
 }

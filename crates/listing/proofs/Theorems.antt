@@ -7,16 +7,14 @@ use native.Mathlib.Numerals.{add-one}
 use native.Mathlib.Omega.{arith}
 use lib.ListN.{length, get_or, drop, drop_of_length-le}
 use lib.Seq.{drop-cons}
-use borrow.Author.Tests.{eq-eqb, ne_eqb}
+use Rattle.std.specs.Prelude.{None, Some, Ok, Err}
+use Rattle.std.specs.Result.{result_ok}
 use Rattle.pieces.specs.Claims.{Bytes}
 use Rattle.print.specs.Decimal.{decimal_of}
-use Rattle.bundle.specs.Bundle.{read_of, images_in}
-use Rattle.bundle.specs.Claims.{lengths_of, Legal, bundled}
-use Rattle.bundle.proofs.Meaning.{accepted_good}
-use Rattle.bundle.proofs.Totals.{lengths_many}
-use Rattle.bundle.proofs.Made.{bundle_with}
-use Rattle.bundle.proofs.Theorems.{images_counted, hands_back}
-use Rattle.listing.specs.Listing.{most_bytes, refused_word, images_word, feed, line_of, lines_from, listed, list_of}
+use Rattle.bundle.specs.Bundle.{Reading, read_of}
+use Rattle.bundle.specs.Claims.{Legal, bundled, BundleWith}
+use Rattle.bundle.proofs.Theorems.{accepts_exactly, read-bundled, hands_back}
+use Rattle.listing.specs.Listing.{most_bytes, refused_word, images_word, feed, line_of, lines_from, listed, text_for, list_of}
 use Rattle.listing.specs.Claims.{lines_of, text_of, Listed, ListsExactly, OneLister}
 use Rattle.listing.proofs.Laws.{too_long, short_enough, lines_next, lines_none}
 
@@ -34,39 +32,34 @@ lines_are images legal (suc m) k h =
     ∙ ap (λ (i : ℕ). line_of k (get_or images k []) ++ lines_of (k + 1) (drop i images)) (add-one k)
     ∙ ap (lines_of k) (sym (drop-cons images k [] (omega arith)))
 
+-- a file that is listed has its images to list
+listed_images : (bytes : List ℕ) (images : List (List ℕ)) → Listed bytes images → listed bytes ≡ Some (length images)
+listed_images bytes images l = short_enough bytes l.short ∙ ap result_ok (ap read_of l.made ∙ read-bundled images l.legal)
+
 of_bundle : (bytes : List ℕ) (images : List (List ℕ)) → Listed bytes images → list_of bytes ≡ text_of images
 unfolding list_of
 of_bundle bytes images l =
-    let legal : Legal images = l.legal in
-    let many : listed bytes ≡ length images =
-    short_enough bytes l.short ∙ ap (λ (x : List ℕ). images_in (read_of x)) l.made ∙ images_counted images legal
-    in
-    let some : 1 ≤ length (lengths_of images) = legal.counted.some in
-    let none : listed bytes ≡ 0 → ⊥ = λ e. omega (arith, many, lengths_many images) in
-    rw (ne_eqb (listed bytes) 0 none)
-    (ap₂ (λ (n : ℕ) (x : List ℕ). (images_word ++ decimal_of n ++ feed) ++ lines_from x n 0) many l.made
-    ∙ ap (λ (x : List ℕ). (images_word ++ decimal_of (length images) ++ feed) ++ x) (lines_are images legal (length images) 0 (omega arith)))
+    ap₂ text_for l.made (listed_images bytes images l)
+    ∙ ap (λ (x : List ℕ). (images_word ++ decimal_of (length images) ++ feed) ++ x) (lines_are images l.legal (length images) 0 (omega arith))
 
 -- a file has images to list, or there is none
-either :
-    (A : Type 0) (bytes : List ℕ) → Bytes bytes → ((images : List (List ℕ)) → Listed bytes images → A) → (listed bytes ≡ 0 → A) → A
-either A bytes b some none =
-    elim (dec_lt most_bytes (length bytes)) [
-      | yes l ↦ none (too_long bytes l)
-      | no l ↦
-          let short : length bytes ≤ most_bytes = omega arith in
-          let is : listed bytes ≡ images_in (read_of bytes) = short_enough bytes short in
-          elim (dec_lt 0 (images_in (read_of bytes))) [
-            | yes h ↦
-                let w = bundle_with bytes b (accepted_good bytes 0 h).0 in
-                some w.images (record { legal = w.legal; made = w.made; short = short })
-            | no h ↦ none (omega arith)
-          ]
-    ]
+module _ (A : Type 0) (bytes : List ℕ) (b : Bytes bytes) (some : (images : List (List ℕ)) → Listed bytes images → A) (none : listed bytes ≡ None → A) where
+  as_read : length bytes ≤ most_bytes → (r : Reading) → read_of bytes ≡ r → A
+  as_read short (Ok n) e =
+      let w : BundleWith bytes n = (accepts_exactly bytes b (Ok n)).then e in
+      some w.images (record { legal = w.legal; made = w.made; short = short })
+  as_read short (Err r) e = none (short_enough bytes short ∙ ap result_ok e)
 
-refused : (bytes : List ℕ) → listed bytes ≡ 0 → list_of bytes ≡ refused_word ++ feed
+  either : A
+  either =
+      elim (dec_lt most_bytes (length bytes)) [
+        | yes l ↦ none (too_long bytes l)
+        | no l ↦ as_read (omega arith) (read_of bytes) refl
+      ]
+
+refused : (bytes : List ℕ) → listed bytes ≡ None → list_of bytes ≡ refused_word ++ feed
 unfolding list_of
-refused bytes e = rw (eq-eqb (listed bytes) 0 e)
+refused bytes e = ap (text_for bytes) e
 
 pub lists_exactly : ListsExactly list_of
 lists_exactly =
@@ -76,13 +69,8 @@ lists_exactly =
     }
 
 -- what has no image to list is not the bundle of any
-none_listed : (bytes : List ℕ) → listed bytes ≡ 0 → (images : List (List ℕ)) → Listed bytes images → ⊥
-none_listed bytes e images l =
-    let some : 1 ≤ length (lengths_of images) = l.legal.counted.some in
-    let many : images_in (read_of bytes) ≡ length images =
-    ap (λ (x : List ℕ). images_in (read_of x)) l.made ∙ images_counted images l.legal
-    in
-    omega (arith, short_enough bytes l.short, lengths_many images)
+none_listed : (bytes : List ℕ) → listed bytes ≡ None → (images : List (List ℕ)) → Listed bytes images → ⊥
+none_listed bytes e images l = let other : None ≡ Some (length images) = sym e ∙ listed_images bytes images l in cc
 
 pub one_lister : OneLister
 one_lister list exactly bytes b =

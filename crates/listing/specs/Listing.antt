@@ -1,9 +1,10 @@
 -- The list of a bundle's images as text, in ASCII.
-use Rattle.std.specs.Prelude.{ℕ, zero, suc, ◌+◌, ◌*◌, cond, List, [], ◌∷◌, ◌++◌, eqb, ltb, length}
+use Rattle.std.specs.Prelude.{ℕ, zero, suc, ◌+◌, ◌*◌, cond, List, [], ◌∷◌, ◌++◌, ltb, length, Option, None, Some}
+use Rattle.std.specs.Result.{result_ok}
 use Rattle.crc.specs.Crc.{crc_of}
 use Rattle.print.specs.Hex.{hex_of}
 use Rattle.print.specs.Decimal.{decimal_of}
-use Rattle.bundle.specs.Bundle.{most_images, read_of, images_in, image_of}
+use Rattle.bundle.specs.Bundle.{most_images, read_of, image_of}
 
 -- the longest file that is listed
 abbrev pub most_bytes : ℕ
@@ -31,15 +32,18 @@ unfoldable pub lines_from : List ℕ → ℕ → ℕ → List ℕ
 lines_from bytes zero k = []
 lines_from bytes (suc n) k = line_of k (image_of bytes k) ++ lines_from bytes n (k + 1)
 
--- the images to list: none of a file that is refused or too long
-abbrev pub listed : List ℕ → ℕ
-listed bytes = cond (ltb most_bytes (length bytes)) 0 (images_in (read_of bytes))
+-- how many images to list: none of a file that is refused or too long
+abbrev pub listed : List ℕ → Option ℕ
+listed bytes = cond (ltb most_bytes (length bytes)) None (result_ok (read_of bytes))
+
+-- the text where there are so many images, and where there are none
+abbrev pub text_for : List ℕ → Option ℕ → List ℕ
+text_for bytes None = refused_word ++ feed
+text_for bytes (Some n) = (images_word ++ decimal_of n ++ feed) ++ lines_from bytes n 0
 
 -- the whole text for any bytes
 unfoldable pub list_of : List ℕ → List ℕ
-list_of bytes =
-    cond (eqb (listed bytes) 0) (refused_word ++ feed)
-    ((images_word ++ decimal_of (listed bytes) ++ feed) ++ lines_from bytes (listed bytes) 0)
+list_of bytes = text_for bytes (listed bytes)
 
 -- the most bytes of the first line, of an image's, and of the whole text
 abbrev pub most_first : ℕ

@@ -12,14 +12,14 @@ ghost use Rattle.crc.specs.Crc.{crc_of};
 // The longest file that is listed.
 const MOST: usize = 65_536;
 
-#[tactic(auto, using(bundle::proofs::Meaning::few_images))]
-fn images(file: &[u8]) -> usize
-    ensures { (result ≡ listed file.now) × (result ≤ most_images) }
+// How many images are listed; none of a file that is refused or too long.
+fn images(file: &[u8]) -> Option<usize>
+    ensures { result ≡ listed file.now }
 {
     if MOST < file.len() {
-        return 0;
+        return None;
     }
-    bundle::images(bundle::read(file))
+    bundle::read(file).ok()
 }
 
 // A number and the space behind it.
@@ -56,10 +56,8 @@ fn lines(file: &[u8], count: usize, text: &mut [u8], at: usize) -> usize
     ensures { (Laid text.old text.new at result (lines_from file.now count 0)) × (result ≤ at + most_line * count) }
 {
     let mut end = at;
-    let mut k = 0;
-    while k < count {
+    for k in 0..count {
         end = line(k, bundle::image(file, k), text, end);
-        k += 1;
     }
     end
 }
@@ -78,10 +76,9 @@ pub fn list(file: &[u8], text: &mut [u8]) -> usize
     requires { most_text ≤ length text.old }
     ensures { (Laid text.old text.new 0 result (list_of file.now)) × (result ≤ most_text) }
 {
-    let count = images(file);
-    if count == 0 {
+    let Some(count) = images(file) else {
         return pieces::put(b"refused\n", text, 0);
-    }
+    };
     let first = first_line(count, text);
     lines(file, count, text, first)
 }
