@@ -112,6 +112,53 @@ struct Entry {
     length: u32,
 }
 
+impl Entry {
+    fn read(file: &[u8], k: usize) -> Entry
+        requires { head_size (k + 1) ≤ length file.now }
+        ensures { result ≡ entry_at file.now k }
+    {
+        let at = head(k);
+        Entry {
+            offset: numbers::long(file, at),
+            length: numbers::long(file, at + 4),
+        }
+    }
+
+    // Where the image ends. The sum is made in 64 bits, so that it can't wrap.
+    fn end(self) -> u64
+        ensures { result ≡ end_of self }
+    {
+        u64::from(self.offset) + u64::from(self.length)
+    }
+
+    // In a file of so many bytes, held to where the image before it ended: where its own image ends.
+    fn judge(self, at: u64, size: u64) -> Result<u64, Refusal>
+        ensures { result ≡ judged size at self (Ok (end_of self)) }
+    {
+        if u64::from(self.offset) != at {
+            return Err(Refusal::Offset);
+        }
+        if self.length == 0 {
+            return Err(Refusal::Empty);
+        }
+        let end = self.end();
+        if size < end {
+            return Err(Refusal::Past);
+        }
+        Ok(end)
+    }
+
+    fn to_bytes(self) -> [u8; ENTRY]
+        ensures { result ≡ bytes4 self.offset ++ bytes4 self.length }
+    {
+        let offset = numbers::low::<4>(self.offset);
+        let length = numbers::low::<4>(self.length);
+        [
+            offset[0], offset[1], offset[2], offset[3], length[0], length[1], length[2], length[3],
+        ]
+    }
+}
+
 // A part of a file: so many bytes, from one of them on.
 #[repr(C)]
 #[derive(Clone, Copy, Debug, Default, PartialEq, Eq)]
@@ -134,41 +181,6 @@ fn head(n: usize) -> usize
     COUNT + ENTRY * n
 }
 
-fn entry_at(file: &[u8], k: usize) -> Entry
-    requires { head_size (k + 1) ≤ length file.now }
-    ensures { result ≡ entry_at file.now k }
-{
-    let at = head(k);
-    Entry {
-        offset: numbers::long(file, at),
-        length: numbers::long(file, at + 4),
-    }
-}
-
-// Where an image ends. The sum is made in 64 bits, so that it can't wrap.
-fn end(entry: Entry) -> u64
-    ensures { result ≡ end_of entry }
-{
-    u64::from(entry.offset) + u64::from(entry.length)
-}
-
-// An entry of a file of so many bytes, held to where the image before it ended: where its own image ends.
-fn judge(entry: Entry, at: u64, size: u64) -> Result<u64, Refusal>
-    ensures { result ≡ judged size at entry (Ok (end_of entry)) }
-{
-    if u64::from(entry.offset) != at {
-        return Err(Refusal::Offset);
-    }
-    if entry.length == 0 {
-        return Err(Refusal::Empty);
-    }
-    let end = end(entry);
-    if size < end {
-        return Err(Refusal::Past);
-    }
-    Ok(end)
-}
-
 // The entries in their order, then the end of the file.
 #[tactic(auto, using(crate::proofs::Walk::turned_away, crate::proofs::Walk::let_through), unfolding(crate::specs::Bundle::read_from))]
 fn read_entries(file: &[u8], count: usize) -> Result<usize, Refusal>
@@ -178,7 +190,7 @@ fn read_entries(file: &[u8], count: usize) -> Result<usize, Refusal>
     let size = file.len() as u64;
     let mut at = head(count) as u64;
     for k in 0..count {
-        at = judge(entry_at(file, k), at, size)?;
+        at = Entry::read(file, k).judge(at, size)?;
     }
     if at < size {
         return Err(Refusal::LeftOver);
@@ -194,7 +206,7 @@ pub fn read(file: &[u8]) -> Result<usize, Refusal>
     if file.len() < COUNT {
         return Err(Refusal::Short);
     }
-    let count = numbers::word(file, 0) as usize;
+    let count = usize::from(numbers::word(file, 0));
     if !can_count(count) {
         return Err(Refusal::Count);
     }
@@ -213,7 +225,7 @@ pub fn part_of(file: &[u8], k: usize) -> Part
     if read(file).unwrap_or(0) <= k {
         return Part::default();
     }
-    let entry = entry_at(file, k);
+    let entry = Entry::read(file, k);
     Part {
         from: entry.offset as usize,
         length: entry.length as usize,
@@ -226,9 +238,7 @@ pub fn image(file: &[u8], k: usize) -> &[u8]
     ensures { result.now ≡ image_of file.now k }
 {
     let part = part_of(file, k);
-    let from = part.from;
-    let end = from + part.length;
-    &file[from..end]
+    &file[part.from..part.from + part.length]
 }
 
 // Whether a bundle's numbers have 32 bits and its bytes have room. An offset and a length of 32 bits have a sum of 33 at most.
@@ -239,7 +249,7 @@ fn fits_in(room: u64, lengths: &[u64]) -> bool
 {
     let mut at = head(lengths.len()) as u64;
     for &length in lengths {
-        if (PAST <= at) | (PAST <= length) {
+        if PAST <= at || PAST <= length {
             return false;
         }
         at += length;
@@ -254,16 +264,6 @@ fn total_of(lengths: &[u64]) -> u64
     lengths.iter().sum()
 }
 
-fn entry_bytes(entry: Entry) -> [u8; 8]
-    ensures { result ≡ bytes4 entry.offset ++ bytes4 entry.length }
-{
-    let offset = numbers::low::<4>(entry.offset);
-    let length = numbers::low::<4>(entry.length);
-    [
-        offset[0], offset[1], offset[2], offset[3], length[0], length[1], length[2], length[3],
-    ]
-}
-
 // The entries behind the count.
 fn lay_entries(lengths: &[u64], buffer: &mut [u8]) -> usize
     requires lengths_in_bounds { head_size (length lengths.now) ≤ length buffer.old }
@@ -273,11 +273,11 @@ fn lay_entries(lengths: &[u64], buffer: &mut [u8]) -> usize
     let mut offset = head(lengths.len()) as u64;
     let mut at = COUNT;
     for &length in lengths {
-        let bytes = entry_bytes(Entry {
+        let entry = Entry {
             offset: offset as u32,
             length: length as u32,
-        });
-        at = pieces::put(&bytes, buffer, at);
+        };
+        at = pieces::put(&entry.to_bytes(), buffer, at);
         offset += length;
     }
     at

@@ -4,11 +4,11 @@ use Rattle.pieces.proofs.Laws.{owed_less, owed_none}
 use Rattle.bundle.proofs.Laws.{fits_on, entries_next, entries_none}
 use Rattle.bundle.proofs.lay_entries.Goals as goal
 
-pub overflow_cast-offset : goal.overflow_cast-offset
-overflow_cast-offset c = omega (arith, (fits_on _ c.loop-length.length-index _ _ (omega arith) c.loop-length.invariant.1).0.0)
+pub overflow_cast-entry : goal.overflow_cast-entry
+overflow_cast-entry c = omega (arith, (fits_on _ c.loop-length.length-index _ _ (omega arith) c.loop-length.invariant.1).0.0)
 
-pub overflow_cast-length : goal.overflow_cast-length
-overflow_cast-length c = omega (arith, (fits_on _ c.loop-length.length-index _ _ (omega arith) c.loop-length.invariant.1).0.1)
+pub overflow_cast-entry-in-loop-length : goal.overflow_cast-entry-in-loop-length
+overflow_cast-entry-in-loop-length c = omega (arith, (fits_on _ c.loop-length.length-index _ _ (omega arith) c.loop-length.invariant.1).0.1)
 
 pub overflow_add-offset : goal.overflow_add-offset
 overflow_add-offset c =
@@ -21,7 +21,7 @@ loop-length-preserved c =
       omega arith,
       on.1,
       owed_less _ _ _ _ _ _ _ _ _ _
-          (entries_next _ c.loop-length.length-index _ _ (omega arith) c.entry_bytes-bytes.ensures)
+          (entries_next _ c.loop-length.length-index _ _ (omega arith) c.to_bytes.ensures)
           (omega arith) c.loop-length.invariant.2 c.put-at.ensures,
     )
 

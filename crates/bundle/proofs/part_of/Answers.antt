@@ -4,5 +4,5 @@ use native.Mathlib.Omega.{arith}
 use Rattle.bundle.proofs.Meaning.{image_inside}
 use Rattle.bundle.proofs.part_of.Goals as goal
 
-pub entry_at-entry-requires : goal.entry_at-entry-requires
-entry_at-entry-requires c = omega (arith, (image_inside c.args.file.now c.args.k (rw (sym c.read.ensures) (omega arith))).0)
+pub read-entry-requires : goal.read-entry-requires
+read-entry-requires c = omega (arith, (image_inside c.args.file.now c.args.k (rw (sym c.read.ensures) (omega arith))).0)

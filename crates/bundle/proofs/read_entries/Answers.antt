@@ -11,4 +11,4 @@ returns-in_err-at c =
     let p = err_from_is_err_and c.from_residual.result c.from_residual.ensures.1 in
     let left = c.args.count - (c.loop-k.k + 1) in
     rw (p.1, p.2)
-    (sym (turned_away _ _ _ left _ _ _ (omega arith) c.entry_at.ensures _ (sym c.judge.ensures ∙ c.in_err-at.was)) ∙ c.loop-k.invariant)
+    (sym (turned_away _ _ _ left _ _ _ (omega arith) c.read.ensures _ (sym c.judge.ensures ∙ c.in_err-at.was)) ∙ c.loop-k.invariant)
