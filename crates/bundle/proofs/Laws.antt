@@ -57,10 +57,6 @@ module _ (l : List ℕ) (k : ℕ) where
   unfolding fits_in
   fits_next room at h t = ap (fits_in room at) (next h) ∙ rw t
 
-  pub fits_end : (room at : ℕ) → length l ≤ k → fits_in room at (drop k l) ≡ leb at room
-  unfolding fits_in
-  fits_end room at h = ap (fits_in room at) (none h)
-
 -- neither number is past 32 bits
 pub narrow : (n m : ℕ) → (leb (2 ^ 32) n || leb (2 ^ 32) m) ≡ false → (n < 2 ^ 32) × (m < 2 ^ 32)
 narrow n m h =

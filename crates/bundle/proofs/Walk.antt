@@ -1,19 +1,17 @@
 -- The reader's walk over the entries: what one entry does to it, and its end. Assumes nothing.
-use Prim.Native.Nat.{ℕ, suc, ◌+◌, ◌-◌, ◌≤◌, ◌<◌}
+use Prim.Native.Nat.{ℕ, suc, ◌+◌, ◌≤◌, ◌<◌}
 use mathlib.Core.List.{List}
 use mathlib.Core.Path.{◌≡◌, refl, sym, ap, ◌∙◌}
 use mathlib.Core.Bool.{Bool, true, false, cond, not}
-use native.Mathlib.Omega.{arith}
 use lib.Dec.{eqb, ltb}
-use lib.ListN.{length, take, drop}
+use lib.ListN.{length}
 use borrow.Author.Tests.{lt-ltb, le-ltb, lt-leb, le-leb, eq-eqb, ne_eqb}
 use Rattle.numbers.specs.Numbers.{word_at}
 use Rattle.bundle.specs.declared.Entry.{Entry}
-use Rattle.bundle.specs.declared.Part.{Part}
 use Rattle.bundle.specs.declared.Refusal.{Refusal}
 use Rattle.bundle.specs.declared.Refusal.TheVariants.{Short, Count, Table, Offset, Empty, Past, LeftOver}
 use Rattle.std.specs.Prelude.{Ok, Err}
-use Rattle.bundle.specs.Bundle.{entry_at, end_of, judged, Reading, read_from, can_count, head_size, read_of, images_in, part_of, image_of}
+use Rattle.bundle.specs.Bundle.{entry_at, end_of, judged, Reading, read_from, can_count, head_size, read_of, images_in, part_of}
 
 -- three tests, and what stands behind them
 abbrev tests : Bool → Bool → Bool → Reading → Reading
@@ -111,12 +109,3 @@ pub part_some :
     → part_of bytes k ≡ record { from = (entry_at bytes k).offset; length = (entry_at bytes k).length }
 unfolding part_of
 part_some bytes k h = rw (lt-leb (images_in (read_of bytes)) k h)
-
--- its bytes, from the place where it begins to the one where it ends
-pub image_is :
-    (bytes : List ℕ) (k : ℕ) (p : Part) → p ≡ part_of bytes k
-    → take (p.from + p.length - p.from) (drop p.from bytes) ≡ image_of bytes k
-unfolding image_of
-image_is bytes k p e =
-    let long : p.from + p.length - p.from ≡ p.length = omega arith in
-    ap (λ (n : ℕ). take n (drop p.from bytes)) long ∙ ap (λ (x : Part). take x.length (drop x.from bytes)) e

@@ -159,7 +159,8 @@ impl Entry {
     }
 }
 
-// A part of a file: so many bytes, from one of them on.
+// A part of a file: so many bytes, from one of them on. C has it as it stands, so no bytes are no image, and no Option says so: every
+// image has a byte at least.
 #[repr(C)]
 #[derive(Clone, Copy, Debug, Default, PartialEq, Eq)]
 pub struct Part {
@@ -182,7 +183,7 @@ fn head(n: usize) -> usize
 }
 
 // The entries in their order, then the end of the file.
-#[tactic(auto, using(crate::proofs::Walk::turned_away, crate::proofs::Walk::let_through), unfolding(crate::specs::Bundle::read_from))]
+#[tactic(auto, using(crate::proofs::Walk::let_through), unfolding(crate::specs::Bundle::read_from))]
 fn read_entries(file: &[u8], count: usize) -> Result<usize, Refusal>
     requires { head_size count ≤ length file.now }
     ensures { result ≡ read_from file.now count count 0 (head_size count) }
@@ -294,7 +295,8 @@ fn lay(lengths: &[u64], images: &[u8], buffer: &mut [u8]) -> usize
     pieces::put(images, buffer, behind)
 }
 
-// The images come as their lengths, and as their bytes end to end. The bundle goes to the buffer's front: so many bytes.
+// The images come as their lengths, and as their bytes end to end: C hands over both so. The bundle goes to the buffer's front, and how
+// many bytes it has is answered.
 #[tactic(auto, using(crate::proofs::Laws::fits_total, crate::proofs::Laws::sum_is_total), unfolding(crate::specs::Bundle::write_of))]
 pub fn write(lengths: &[u64], images: &[u8], buffer: &mut [u8]) -> Result<usize, Unwritten>
     ensures { left result buffer.new ≡ write_of lengths.now images.now buffer.old }

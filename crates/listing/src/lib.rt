@@ -23,6 +23,7 @@ fn images(file: &[u8]) -> Option<usize>
 }
 
 // A number and the space behind it.
+// Here and below text and place stay two parameters, as `pieces::put` and `print::decimal` have them: `Laid` speaks of a plain list.
 fn number(n: u64, text: &mut [u8], at: usize) -> usize
     requires { at + length (decimal_of n) + 1 ≤ length text.old }
     ensures { Laid text.old text.new at result (decimal_of n ++ space) }
@@ -42,18 +43,26 @@ fn sum(image: &[u8], text: &mut [u8], at: usize) -> usize
 }
 
 // An image's line, for a number of up to two digits and a length of up to five.
+#[tactic(auto, using(crate::proofs::Laws::two_digits, crate::proofs::Laws::short_number, crate::proofs::Laws::long_number))]
 fn line(k: usize, image: &[u8], text: &mut [u8], at: usize) -> usize
-    requires { (k < 100) × (length image.now ≤ most_bytes) × (at + most_line ≤ length text.old) }
-    ensures { (Laid text.old text.new at result (line_of k image.now)) × (result ≤ at + most_line) }
+    requires number { k < 100 }
+    requires size { length image.now ≤ most_bytes }
+    requires room { at + most_line ≤ length text.old }
+    ensures laid { Laid text.old text.new at result (line_of k image.now) }
+    ensures within { result ≤ at + most_line }
 {
     let first = number(k as u64, text, at);
     let second = number(image.len() as u64, text, first);
     sum(image, text, second)
 }
 
+#[tactic(auto, using(crate::proofs::Laws::lines_none, crate::proofs::Laws::image_short, pieces::proofs::Laws::owed_none))]
 fn lines(file: &[u8], count: usize, text: &mut [u8], at: usize) -> usize
-    requires { (count ≤ most_images) × (length file.now ≤ most_bytes) × (at + most_line * count ≤ length text.old) }
-    ensures { (Laid text.old text.new at result (lines_from file.now count 0)) × (result ≤ at + most_line * count) }
+    requires few { count ≤ most_images }
+    requires size { length file.now ≤ most_bytes }
+    requires room { at + most_line * count ≤ length text.old }
+    ensures laid { Laid text.old text.new at result (lines_from file.now count 0) }
+    ensures within { result ≤ at + most_line * count }
 {
     let mut end = at;
     for k in 0..count {
@@ -62,9 +71,12 @@ fn lines(file: &[u8], count: usize, text: &mut [u8], at: usize) -> usize
     end
 }
 
+#[tactic(auto, using(crate::proofs::Laws::two_digits))]
 fn first_line(count: usize, text: &mut [u8]) -> usize
-    requires { (count < 100) × (most_first ≤ length text.old) }
-    ensures { (Laid text.old text.new 0 result (images_word ++ decimal_of count ++ feed)) × (result ≤ most_first) }
+    requires number { count < 100 }
+    requires room { most_first ≤ length text.old }
+    ensures laid { Laid text.old text.new 0 result (images_word ++ decimal_of count ++ feed) }
+    ensures within { result ≤ most_first }
 {
     let word = pieces::put(b"images ", text, 0);
     let number = print::decimal(count as u64, text, word);
@@ -72,9 +84,11 @@ fn first_line(count: usize, text: &mut [u8]) -> usize
 }
 
 // The whole text for any bytes, at the front of a buffer that is long enough for the longest one.
+#[tactic(auto, using(crate::proofs::Laws::listed_short, crate::proofs::Laws::listed_few))]
 pub fn list(file: &[u8], text: &mut [u8]) -> usize
     requires { most_text ≤ length text.old }
-    ensures { (Laid text.old text.new 0 result (list_of file.now)) × (result ≤ most_text) }
+    ensures laid { Laid text.old text.new 0 result (list_of file.now) }
+    ensures within { result ≤ most_text }
 {
     let Some(count) = images(file) else {
         return pieces::put(b"refused\n", text, 0);

@@ -1,4 +1,4 @@
--- The invariant: the entries that are left, laid from here on, give what all of them give. Assumes nothing.
+-- Offset and length of the next entry fit, since what is left fits; and where it is laid, the others are left. Assumes nothing.
 use native.Mathlib.Omega.{arith}
 use Rattle.pieces.proofs.Laws.{owed_less, owed_none}
 use Rattle.bundle.proofs.Laws.{fits_on, entries_next, entries_none}

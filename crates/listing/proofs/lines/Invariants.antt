@@ -6,5 +6,7 @@ use Rattle.listing.proofs.lines.Given as goal
 
 abbrev pub invariant-loop-k : goal.invariant-loop-k
 invariant-loop-k l =
-    (l.end ≤ l.at + most_line * l.k)
-    × Owed l.initial.text l.text l.at l.end (lines_from l.file l.count 0) (lines_from l.file (l.count - l.k) l.k)
+    record {
+      within : l.end ≤ l.at + most_line * l.k;
+      owed : Owed l.initial.text l.text l.at l.end (lines_from l.file l.count 0) (lines_from l.file (l.count - l.k) l.k);
+    }
