@@ -8,6 +8,7 @@ use native.Mathlib.Numerals.{add-one}
 use native.Mathlib.Omega.{arith}
 use lib.Dec.{eqb}
 use lib.ListN.{length}
+use borrow.Author.Count.{below_more}
 use borrow.Author.Tests.{eqb-true, eqb-false}
 use Rattle.pieces.proofs.Tests.{tells_no, isnt, either_way}
 use Rattle.bundle.specs.declared.Entry.{Entry}
@@ -28,18 +29,6 @@ pub record AllGood (bytes : List ℕ) : Type 0 where
 abbrev pub Means : Reading → List ℕ → Type 0
 Means (Ok n) bytes = AllGood bytes × (n ≡ count bytes)
 Means (Err r) bytes = Says (Err r) bytes
-
--- one more good entry
-good_more : (bytes : List ℕ) (k : ℕ) → GoodBelow bytes k → EntryGood bytes k → GoodBelow bytes (suc k)
-good_more bytes k good one j h =
-    elim (dec_lt j k) [
-      | yes l ↦ good j l
-      | no l ↦ let e : k ≡ j = omega arith in subst (EntryGood bytes) e one
-    ]
-
-pub positive : (n : ℕ) → (n ≡ 0 → ⊥) → 1 ≤ n
-positive zero h = absurd (h refl)
-positive (suc n) h = omega arith
 
 -- the reading is what it is found to be
 found : (bytes : List ℕ) (r s : Reading) → r ≡ s → Means s bytes → Means r bytes
@@ -85,7 +74,7 @@ module _ (bytes : List ℕ) (headed : Headed bytes) where
       (at_entry k there good (in_place o, λ h. omega arith)))
       (λ some.
       let z : e.length ≡ 0 → ⊥ = eqb-false e.length 0 some in
-      let one : 1 ≤ e.length = positive e.length z in
+      let one : 1 ≤ e.length = omega arith in
       elim (dec_lt (length bytes) (end_of e)) [
         | yes l ↦
             found bytes _ (Err Past) (at_past bytes n (suc left) left k at e refl refl o z (end_of e) refl l)
@@ -93,8 +82,7 @@ module _ (bytes : List ℕ) (headed : Headed bytes) where
         | no l ↦
             found bytes _ _ (passed bytes n (suc left) left k at e refl refl o z (end_of e) refl (omega arith))
             (walk left (k + 1) (end_of e) (omega arith) (next_start k at e o from refl) (omega arith)
-            (subst (GoodBelow bytes) (sym (add-one k))
-            (good_more bytes k good (record { in_place = in_place o; has_bytes = one; inside = omega arith }))))
+            (below_more (EntryGood bytes) k good (record { in_place = in_place o; has_bytes = one; inside = omega arith })))
       ]))
       (λ other.
       let o : e.offset ≡ at → ⊥ = eqb-false e.offset at other in
@@ -154,19 +142,6 @@ few_images bytes =
 
 -- ---- and the other way: what is so is what is read
 
-below : (n m : ℕ) → (n ≤ m → ⊥) → m < n
-below n m h =
-    elim (dec_lt m n) [
-      | yes l ↦ l
-      | no l ↦ absurd (h (omega arith))
-    ]
-
-nothing : (n : ℕ) → (1 ≤ n → ⊥) → n ≡ 0
-nothing n h = omega (arith, below 1 n h)
-
-pub nonzero : (n : ℕ) → 1 ≤ n → n ≡ 0 → ⊥
-nonzero n h e = omega arith
-
 module _ (bytes : List ℕ) (headed : Headed bytes) where
   -- the walk comes to an entry behind good ones
   reach :
@@ -183,7 +158,7 @@ module _ (bytes : List ℕ) (headed : Headed bytes) where
       let end : start bytes k + e.length ≡ end_of e = ap (λ (x : ℕ). x + e.length) (sym one.in_place) in
       reach k (omega arith) (λ j l. good j (omega arith))
       ∙ passed bytes (count bytes) (count bytes - k) (count bytes - suc k) k (start bytes k) e (omega arith) refl one.in_place
-      (nonzero e.length one.has_bytes) (start bytes k + e.length) end (omega (arith, one.inside))
+      (λ z. omega (arith, one.has_bytes)) (start bytes k + e.length) end (omega (arith, one.inside))
       ∙ ap (λ (i : ℕ). read_from bytes (count bytes) (count bytes - suc k) i (start bytes k + e.length)) (add-one k)
 
 module _ (bytes : List ℕ) {Wrong : ℕ → Type 0} (a : AtEntry bytes Wrong) where
@@ -199,16 +174,16 @@ given bytes (Ok n) m =
     reach bytes all.headed (count bytes) (omega arith) all.good
     ∙ at_end bytes (count bytes) _ (count bytes) _ (omega arith) (omega (arith, all.ends))
     ∙ ap Ok (sym m.1)
-given bytes (Err Short) h = at_short bytes (omega (arith, below 2 (length bytes) h))
+given bytes (Err Short) h = at_short bytes (omega arith)
 given bytes (Err Count) h = at_count bytes (count bytes) h.0 refl (isnt _ _ (count_tells (count bytes)) h.1)
 given bytes (Err Table) h =
-    at_table bytes (count bytes) h.0 refl ((count_tells (count bytes)).is h.1) (below (head_size (count bytes)) (length bytes) h.2)
+    at_table bytes (count bytes) h.0 refl ((count_tells (count bytes)).is h.1) (omega (arith, h.2))
 given bytes (Err Offset) a = here bytes a ∙ at_offset bytes _ _ _ a.entry _ _ (more bytes a) refl a.wrong
 given bytes (Err Empty) a =
-    here bytes a ∙ at_empty bytes _ _ _ a.entry _ _ (more bytes a) refl a.wrong.0 (nothing _ a.wrong.1)
+    here bytes a ∙ at_empty bytes _ _ _ a.entry _ _ (more bytes a) refl a.wrong.0 (omega (arith, a.wrong.1))
 given bytes (Err Past) a =
     here bytes a
-    ∙ at_past bytes _ _ _ a.entry _ _ (more bytes a) refl a.wrong.0 (nonzero _ a.wrong.1) _ refl (below _ (length bytes) a.wrong.2)
+    ∙ at_past bytes _ _ _ a.entry _ _ (more bytes a) refl a.wrong.0 (λ z. omega (arith, a.wrong.1)) _ refl (omega (arith, a.wrong.2))
 given bytes (Err LeftOver) h =
     reach bytes h.0 (count bytes) (omega arith) h.1
     ∙ at_left_over bytes (count bytes) _ (count bytes) _ (omega arith) h.2

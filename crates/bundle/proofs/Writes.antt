@@ -15,7 +15,6 @@ use Rattle.bundle.specs.Bundle.{can_count, head_size, bundle_of, has_empty, fits
 use Rattle.bundle.specs.Claims.{Counted, Full, Fits}
 use Rattle.bundle.proofs.Laws.{count_tells, fits_on, fits_total}
 use Rattle.bundle.proofs.Laws as laws
-use Rattle.bundle.proofs.Meaning.{positive, nonzero}
 
 pub counted_tells : (l : List ℕ) → Tells (can_count (length l)) (Counted l)
 counted_tells l =
@@ -30,11 +29,11 @@ no_empty : (l : List ℕ) → has_empty l ≡ false → Full l
 no_empty [] e = λ k h. absurd (omega arith)
 no_empty (n ∷ l) e =
     either_way (eqb n 0) (λ t. absurd (true≢false (sym (rw t refl) ∙ e)))
-    (λ t. first_full n l (positive n (eqb-false n 0 t)) (no_empty l (sym (rw t refl) ∙ e)))
+    (λ t. first_full n l (omega (arith, eqb-false n 0 t)) (no_empty l (sym (rw t refl) ∙ e)))
 
 full_so : (l : List ℕ) → Full l → has_empty l ≡ false
 full_so [] f = refl
-full_so (n ∷ l) f = rw (ne_eqb n 0 (nonzero n (f 0 (omega arith)))) (full_so l (λ k h. f (suc k) (omega arith)))
+full_so (n ∷ l) f = rw (ne_eqb n 0 (λ z. omega (arith, f 0 (omega arith)))) (full_so l (λ k h. f (suc k) (omega arith)))
 
 pub full_tells : (l : List ℕ) → Tells (not (has_empty l)) (Full l)
 full_tells l = record { yes = λ e. no_empty l (not-true (has_empty l) e); is = λ f. ap not (full_so l f) }
