@@ -111,14 +111,5 @@ pub extern "C" fn mullirim_bundle_write(
 ) -> Written
     ensures { at_host result buffer.new ≡ bundle_written lengths.now images.now buffer.old }
 {
-    match bundle::write(lengths, images, buffer) {
-        Ok(bytes) => Written {
-            refused: 0,
-            count: bytes,
-        },
-        Err(unwritten) => Written {
-            refused: u32::from(unwritten),
-            count: 0,
-        },
-    }
+    Written::from(bundle::write(lengths, images, buffer))
 }
