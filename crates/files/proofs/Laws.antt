@@ -8,8 +8,8 @@ use Rattle.suffix.specs.declared.Refusal.{Refusal}
 use Rattle.suffix.specs.declared.Refusal.TheVariants.{Short, Signature, Length, Version, Sum}
 use Rattle.suffix.specs.Suffix.{Reading, accepted, Writing, unwritten, Left, left, write_of}
 use Rattle.files.specs.declared.SuffixFound.{SuffixFound}
-use Rattle.files.specs.declared.Written.{Written}
-use Rattle.files.specs.Files.{refused_by, told_read, told_written, at_host, suffix_written}
+use Rattle.files.specs.declared.Counted.{Counted}
+use Rattle.files.specs.Files.{refused_by, told_read, counted, told_written, at_host, suffix_written}
 
 -- every refusal is heard by its number
 pub heard : (r : Refusal) → refused_by r ≡ told_read (Err r)
@@ -52,9 +52,9 @@ written_by zero n = Ok n
 written_by (suc k) n = unwritten
 
 written_back : (w : Writing) → written_by (told_written w).refused (told_written w).count ≡ w
-unfolding told_written written_by
+unfolding counted written_by
 written_back (Ok n) = refl
 written_back (Err w) = refl
 
 pub written_tells : (w v : Writing) → told_written w ≡ told_written v → w ≡ v
-written_tells w v e = sym (written_back w) ∙ ap (λ (t : Written). written_by t.refused t.count) e ∙ written_back v
+written_tells w v e = sym (written_back w) ∙ ap (λ (t : Counted). written_by t.refused t.count) e ∙ written_back v

@@ -1,12 +1,11 @@
 -- The calls for files as a host hears them: numbers for refusals, and zeros where there is nothing else to say.
-use Rattle.std.specs.Prelude.{ℕ, List, Ok, Err}
+use Rattle.std.specs.Prelude.{ℕ, List, Result, Ok, Err}
 use Rattle.suffix.specs.declared.Parts.{Parts}
 use Rattle.suffix.specs.declared.Refusal.{Refusal}
 use Rattle.suffix.specs.Suffix.{Reading, refusal_number, Writing, unwritten_number, Left, write_of}
 use Rattle.bundle.specs.Bundle as Bundle
-use Rattle.files.specs.declared.BundleFound.{BundleFound}
 use Rattle.files.specs.declared.SuffixFound.{SuffixFound}
-use Rattle.files.specs.declared.Written.{Written}
+use Rattle.files.specs.declared.Counted.{Counted}
 
 -- a refusal by its number, with nothing read
 abbrev pub refused_by : Refusal → SuffixFound
@@ -17,17 +16,21 @@ unfoldable pub told_read : Reading → SuffixFound
 told_read (Ok s) = record { parts = s.parts; refused = 0; length = s.length }
 told_read (Err r) = refused_by r
 
+-- what is counted, or the number of why there is nothing
+unfoldable pub counted : {E : Type 0} → (E → ℕ) → Result ℕ E → Counted
+counted number (Ok n) = record { refused = 0; count = n }
+counted number (Err e) = record { refused = number e; count = 0 }
+
 -- a writing: too little room is 1, the only refusal
-unfoldable pub told_written : Writing → Written
-told_written (Ok n) = record { refused = 0; count = n }
-told_written (Err w) = record { refused = unwritten_number w; count = 0 }
+abbrev pub told_written : Writing → Counted
+told_written w = counted unwritten_number w
 
 -- all that a writing leaves at the host
 pub record AtHost : Type 0 where
-  pub written : Written
+  pub written : Counted
   pub buffer : List ℕ
 
-abbrev pub at_host : Written → List ℕ → AtHost
+abbrev pub at_host : Counted → List ℕ → AtHost
 at_host written buffer = record { written = written; buffer = buffer }
 
 unfoldable pub suffix_written : List ℕ → Parts → List ℕ → AtHost
@@ -36,13 +39,11 @@ suffix_written file p buffer =
     at_host (told_written l.result) l.buffer
 
 -- what was found in a bundle, and what was written of one
-unfoldable pub told_bundle : Bundle.Reading → BundleFound
-told_bundle (Ok n) = record { refused = 0; count = n }
-told_bundle (Err r) = record { refused = Bundle.refusal_number r; count = 0 }
+abbrev pub told_bundle : Bundle.Reading → Counted
+told_bundle r = counted Bundle.refusal_number r
 
-unfoldable pub told_bundled : Bundle.Writing → Written
-told_bundled (Ok n) = record { refused = 0; count = n }
-told_bundled (Err w) = record { refused = Bundle.unwritten_number w; count = 0 }
+abbrev pub told_bundled : Bundle.Writing → Counted
+told_bundled w = counted Bundle.unwritten_number w
 
 unfoldable pub bundle_written : List ℕ → List ℕ → List ℕ → AtHost
 bundle_written lengths images buffer =

@@ -20,36 +20,28 @@ pub struct SuffixFound {
     pub length: usize,
 }
 
-// How many bytes were written; or why none were, and zero.
+// How many there are, of a bundle's images or of bytes that were written; or why there are none, and zero. The header has two names for it.
 #[repr(C)]
 #[derive(Clone, Copy)]
-pub struct Written {
+pub struct Counted {
     pub refused: u32,
     pub count: usize,
 }
 
-// A writing as the host has it, whatever it may be refused for.
-impl<E: Into<u32>> From<Result<usize, E>> for Written {
-    ghost from_gives = { λ writing written.
-        MatchResult writing (λ n. written ≡ record { refused = 0; count = n }) (λ e. E.converts e written.refused × (written.count ≡ 0)) };
+// What is counted, as the host has it, whatever it may be refused for.
+impl<E: Into<u32>> From<Result<usize, E>> for Counted {
+    ghost from_gives = { λ found told.
+        MatchResult found (λ n. told ≡ record { refused = 0; count = n }) (λ e. E.converts e told.refused × (told.count ≡ 0)) };
 
-    fn from(writing: Result<usize, E>) -> Written {
-        match writing {
-            Ok(count) => Written { refused: 0, count },
-            Err(refusal) => Written {
+    fn from(found: Result<usize, E>) -> Counted {
+        match found {
+            Ok(count) => Counted { refused: 0, count },
+            Err(refusal) => Counted {
                 refused: refusal.into(),
                 count: 0,
             },
         }
     }
-}
-
-// How many images a bundle has; or why it was refused, and zero.
-#[repr(C)]
-#[derive(Clone, Copy)]
-pub struct BundleFound {
-    pub refused: u32,
-    pub count: usize,
 }
 
 #[tactic(auto, unfolding(crate::specs::Files::told_read))]
@@ -70,29 +62,20 @@ pub extern "C" fn mullirim_suffix_read(file: &[u8]) -> SuffixFound
     }
 }
 
-#[tactic(auto, unfolding(crate::specs::Files::told_written, crate::specs::Files::suffix_written))]
+#[tactic(auto, unfolding(crate::specs::Files::counted, crate::specs::Files::suffix_written))]
 #[unsafe(no_mangle)]
-pub extern "C" fn mullirim_suffix_write(file: &[u8], parts: Parts, buffer: &mut [u8]) -> Written
+pub extern "C" fn mullirim_suffix_write(file: &[u8], parts: Parts, buffer: &mut [u8]) -> Counted
     ensures { at_host result buffer.new ≡ suffix_written file.now parts buffer.old }
 {
-    Written::from(suffix::write(file, parts, buffer))
+    Counted::from(suffix::write(file, parts, buffer))
 }
 
-#[tactic(auto, unfolding(crate::specs::Files::told_bundle))]
+#[tactic(auto, unfolding(crate::specs::Files::counted))]
 #[unsafe(no_mangle)]
-pub extern "C" fn mullirim_bundle_read(file: &[u8]) -> BundleFound
+pub extern "C" fn mullirim_bundle_read(file: &[u8]) -> Counted
     ensures { result ≡ told_bundle (Bundle.read_of file.now) }
 {
-    match bundle::read(file) {
-        Ok(images) => BundleFound {
-            refused: 0,
-            count: images,
-        },
-        Err(refusal) => BundleFound {
-            refused: u32::from(refusal),
-            count: 0,
-        },
-    }
+    Counted::from(bundle::read(file))
 }
 
 #[unsafe(no_mangle)]
@@ -102,14 +85,14 @@ pub extern "C" fn mullirim_bundle_image(file: &[u8], k: usize) -> Part
     bundle::part_of(file, k)
 }
 
-#[tactic(auto, unfolding(crate::specs::Files::told_bundled, crate::specs::Files::bundle_written))]
+#[tactic(auto, unfolding(crate::specs::Files::counted, crate::specs::Files::bundle_written))]
 #[unsafe(no_mangle)]
 pub extern "C" fn mullirim_bundle_write(
     lengths: &[u64],
     images: &[u8],
     buffer: &mut [u8],
-) -> Written
+) -> Counted
     ensures { at_host result buffer.new ≡ bundle_written lengths.now images.now buffer.old }
 {
-    Written::from(bundle::write(lengths, images, buffer))
+    Counted::from(bundle::write(lengths, images, buffer))
 }
