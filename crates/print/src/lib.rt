@@ -31,7 +31,8 @@ fn put_last_digit(n: u64, text: &mut [u8], at: usize) -> usize
     pieces::put(&[b'0' + (n % 10) as u8], text, at)
 }
 
-// The decimal digits of a number, the most significant first, from a place on. The higher ones are those of the quotient by ten.
+// The decimal digits of a number, the most significant first, from a place on. The higher ones are those of the quotient by ten: by
+// recursion, as the definition has it, since a loop would find them in the other order.
 #[tactic(auto, using(crate::proofs::Laws::decimal_one, crate::proofs::Laws::length_more))]
 pub fn decimal(n: u64, text: &mut [u8], at: usize) -> usize
     requires { at + length (decimal_of n) ≤ length text.old }
