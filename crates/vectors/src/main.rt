@@ -18,16 +18,25 @@ const VECTORS: [(&str, &[u8]); 18] = [
     ("a", b"a"),
     ("check", b"123456789"),
     ("old", b"Discard medicine more than two years old."),
-    ("past", b"He who has a shady past knows that nice guys finish last."),
+    (
+        "past",
+        b"He who has a shady past knows that nice guys finish last.",
+    ),
     ("pole", b"I wouldn't marry him with a ten foot pole."),
-    ("mars", b"Free! Free!/A trip/to Mars/for 900/empty jars/Burma Shave"),
+    (
+        "mars",
+        b"Free! Free!/A trip/to Mars/for 900/empty jars/Burma Shave",
+    ),
     ("fox", b"The quick brown fox jumps over the lazy dog"),
     // AUTOSAR, Specification of CRC Routines: the examples of the 32-bit Ethernet CRC.
     ("routines-1", &[0, 0, 0, 0]),
     ("routines-2", &[0xF2, 0x01, 0x83]),
     ("routines-3", &[0x0F, 0xAA, 0x00, 0x55]),
     ("routines-4", &[0x00, 0xFF, 0x55, 0x11]),
-    ("routines-5", &[0x33, 0x22, 0x55, 0xAA, 0xBB, 0xCC, 0xDD, 0xEE, 0xFF]),
+    (
+        "routines-5",
+        &[0x33, 0x22, 0x55, 0xAA, 0xBB, 0xCC, 0xDD, 0xEE, 0xFF],
+    ),
     ("routines-6", &[0x92, 0x6B, 0x55]),
     ("routines-7", &[0xFF, 0xFF, 0xFF, 0xFF]),
     // The messages of RFC 3720, B.4, whose own values are of another polynomial. Their CRC-32 values,
