@@ -28,15 +28,21 @@ pub struct Block(pub u32);
 
 // A byte's address, counted from the start of flash.
 #[repr(C)]
-#[derive(Clone, Copy, PartialEq, Eq, Debug, Default)]
+#[derive(Clone, Copy, PartialEq, Eq, Debug, Default, PartialOrd, Ord)]
 pub struct Addr(pub u32);
+
+// Blocks in a row, from one to the one before another.
+#[derive(Clone, Copy, PartialEq, Eq, Debug)]
+pub struct Blocks {
+    pub first: Block,
+    pub stop: Block,
+}
 
 // The number that says that a search found no address. No flash has a byte there: its length would not be a 32-bit number.
 pub const NOWHERE: u32 = 0xFFFF_FFFF;
 
 impl Block {
-    // Where the block begins, if a 32-bit address can say so. The one way from a block number to an address: 4,194,304 blocks are 4 GiB,
-    // so the product can't wrap.
+    // Where the block begins, if a 32-bit address can say so: 4,194,304 blocks are 4 GiB. The one way from a block number to an address.
     pub fn address(self) -> Option<Addr>
         ensures { result ≡ reach_of self.0 }
     {
@@ -67,17 +73,14 @@ impl Addr {
         Block(self.0 / BLOCK)
     }
 
-    // Whether the n bytes from here on lie in blocks `first` to the one before `stop`; 64 bits hold the sum at any n.
-    pub fn lies_in(self, n: u32, first: Block, stop: Block) -> bool
-        ensures { result ≡ lies_in self.0 n first.0 stop.0 }
+    // Whether the n bytes from here on lie in some blocks; 64 bits hold the sum at any n.
+    pub fn lies_in(self, n: u32, blocks: Blocks) -> bool
+        ensures { result ≡ lies_in self.0 n blocks.first.0 blocks.stop.0 }
     {
-        let Some(low) = first.address() else {
+        let (Some(low), Some(high)) = (blocks.first.address(), blocks.stop.address()) else {
             return false;
         };
-        let Some(high) = stop.address() else {
-            return false;
-        };
-        (low.0 <= self.0) & ((self.0 as u64) + (n as u64) <= high.0 as u64)
+        (low <= self) & ((self.0 as u64) + (n as u64) <= high.0 as u64)
     }
 }
 
@@ -93,35 +96,32 @@ fn store(flash: &mut [u8], at: Addr, byte: u8)
     requires { at.0 < length flash.old }
     ensures { flash.new ≡ set flash.old at.0 byte }
 {
-    let i = at.0 as usize;
-    flash[i] = byte;
+    flash[at.0 as usize] = byte;
 }
 
 // Puts the bytes to their places from `at` upward.
+#[tactic(auto, using(crate::proofs::Writing::put_none, crate::proofs::Writing::put_more, crate::proofs::Writing::put_all))]
 pub fn program(flash: &mut [u8], at: Addr, bytes: &[u8])
     requires { Within flash.old at.0 (length bytes.now) }
     ensures { flash.new ≡ spliced flash.old at.0 bytes.now }
 {
-    let from = at.0;
-    let mut i = 0;
-    while i < bytes.len() {
-        store(flash, Addr(from + i as u32), bytes[i]);
-        i += 1;
+    for (i, &byte) in bytes.iter().enumerate() {
+        store(flash, Addr(at.0 + i as u32), byte);
     }
 }
 
-// Erases n bytes from `at` upward.
+// Erases n bytes from `at` upward, each by the one store, which a `fill` would go past.
 fn wipe(flash: &mut [u8], at: Addr, n: u32)
     requires { Within flash.old at.0 n }
     ensures { flash.new ≡ spliced flash.old at.0 (blank n) }
 {
-    let from = at.0;
     for i in 0..n {
-        store(flash, Addr(from + i), ERASED);
+        store(flash, Addr(at.0 + i), ERASED);
     }
 }
 
 // Erases `count` blocks from block `first` on.
+#[tactic(auto, unfolding(crate::specs::Flash::erased))]
 pub fn erase(flash: &mut [u8], first: Block, count: u32)
     requires { Within flash.old (start_of first.0) (start_of count) }
     ensures { flash.new ≡ erased flash.old first.0 count }
@@ -129,16 +129,27 @@ pub fn erase(flash: &mut [u8], first: Block, count: u32)
     wipe(flash, first.start(), count * BLOCK);
 }
 
-// The eight bytes from place i on as one number, low byte first.
+// The eight bytes from place i on as one number, low byte first. Each by its place, which is proved to lie in flash: `first_chunk` looks at
+// the length once more, and a CHECK of 48 KiB then took 51,384 instructions and not 32,859.
 fn eight(flash: &[u8], i: usize) -> u64
     requires { i + 8 ≤ length flash.now }
     ensures { result ≡ eight_at flash.now i }
 {
-    (numbers::long(flash, i) as u64) + (numbers::long(flash, i + 4) as u64) * 0x1_0000_0000
+    u64::from_le_bytes([
+        flash[i],
+        flash[i + 1],
+        flash[i + 2],
+        flash[i + 3],
+        flash[i + 4],
+        flash[i + 5],
+        flash[i + 6],
+        flash[i + 7],
+    ])
 }
 
 // How far flash is erased on the way from one place to another, eight bytes at a time: to the eight that aren't all erased, or to where
-// fewer are left. A turn judges two eights, one after the other, since with one the counting costs more than the judging.
+// fewer are left. A turn judges two eights, one after the other, since with one the counting costs more than the judging: a walk over
+// `chunks_exact` with `take_while` took 1.75 times as long in Rust, 0.18 of what `all` takes over single bytes, where 0.2 is the bar.
 fn past_eights(flash: &[u8], from: usize, to: usize) -> usize
     requires { (from ≤ to) × Within flash.now 0 to }
     ensures { Passed flash.now from to result }
@@ -168,27 +179,23 @@ fn search_from(flash: &[u8], from: Addr, n: u32) -> Option<Addr>
     requires { Within flash.now from.0 n }
     ensures { result ≡ first_in from.0 (range flash.now from.0 n) }
 {
-    let mut at = from.0 as usize;
-    let end = at + n as usize;
+    let start = from.0 as usize;
+    let end = start + n as usize;
     let mut found = None;
-    'search: while at < end {
-        let mut stop = at + BLOCK as usize;
-        if end < stop {
-            stop = end;
-        }
-        at = past_eights(flash, at, stop);
-        while at < stop {
+    'search: for block in (start..end).step_by(BLOCK as usize) {
+        let stop = end.min(block + BLOCK as usize);
+        for at in past_eights(flash, block, stop)..stop {
             if flash[at] != ERASED {
                 found = Some(Addr(at as u32));
                 break 'search;
             }
-            at += 1;
         }
     }
     found
 }
 
 // The first byte that is not erased among the n bytes from block `first` on.
+#[tactic(auto, unfolding(crate::specs::Flash::searched))]
 pub fn search(flash: &[u8], first: Block, n: u32) -> Option<Addr>
     requires { Within flash.now (start_of first.0) n }
     ensures { result ≡ searched flash.now first.0 n }

@@ -10,7 +10,7 @@ ghost use Rattle.jobs.specs.Job.{Place, Can, Reaches, decision_of, stores_for, s
 ghost use Rattle.jobs.specs.declared.Job.{Job};
 
 use answers::{Heard, Outcome};
-use flash::{Addr, Block};
+use flash::{Addr, Block, Blocks};
 use session::{Board, Session};
 use sums::Sums;
 
@@ -42,8 +42,11 @@ fn sums_after(board: Board, kept: Sums, flash: &[u8], at: Addr, n: u32) -> Sums
         return kept;
     }
     let last = Addr(at.0 + (n - 1));
-    let stop = Block(last.holder().0 + 1);
-    sums::refresh(kept, flash, board.a, board.app_end(), at.holder(), stop)
+    let changed = Blocks {
+        first: at.holder(),
+        stop: Block(last.holder().0 + 1),
+    };
+    sums::refresh(kept, flash, board.application(), changed)
 }
 
 impl Job {
@@ -73,8 +76,11 @@ impl Job {
                 sums_after(board, kept, flash, at, n)
             }
             Job::Wipe { first, count } => {
-                let stop = Block(first.0 + count);
-                sums::refresh(kept, flash, board.a, board.app_end(), first, stop)
+                let changed = Blocks {
+                    first,
+                    stop: Block(first.0 + count),
+                };
+                sums::refresh(kept, flash, board.application(), changed)
             }
         }
     }

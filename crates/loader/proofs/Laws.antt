@@ -77,8 +77,8 @@ module _ (n : ℕ) (b : Board) (e : startable n b.a.0 b.b.0 ≡ true) where
   unfolding startable
   start_sized = eqb-true _ _ (right_of (split_rule b) (eqb n (start_of b.b.0)) e)
 
-  pub start_ground : (f : List ℕ) (end : ℕ) → n ≡ length f → end ≡ app_end b → Split f b.a.0 end
-  start_ground f end l q =
+  pub start_ground : (f : List ℕ) (first end : ℕ) → n ≡ length f → first ≡ b.a.0 → end ≡ app_end b → Split f first end
+  start_ground f first end l p q =
       let ends = end_in_flash b in
       let starts = end_after_start b start-split in
       let facts = split_facts b start-split in

@@ -38,7 +38,7 @@ pub fn start(flash: &[u8], a: Block, b: Block, part0: u32, part1: u32) -> Outcom
         };
     }
     let board = Board { a, b, part0, part1 };
-    let sums = sums::fresh(flash, a, board.app_end());
+    let sums = sums::fresh(flash, board.application());
     Outcome {
         answer: Answer::Taken,
         count: 0,

@@ -8,7 +8,7 @@ ghost use Rattle.session.specs.Session.{allowed_split, board_of, app_end, stream
 ghost use Rattle.session.specs.Rules.{state_rule, status_rule, running, download_rule, upload_rule};
 ghost use Rattle.session.specs.Rules.{after_rule, in_application, range_rule, place_rule, flags_rule, fit_of};
 
-use flash::{Addr, Block};
+use flash::{Addr, Block, Blocks};
 use sums::{MOST, Sums};
 
 // The bytes of the prefix, and how many the info bytes are.
@@ -199,6 +199,17 @@ impl Board {
         self.b
     }
 
+    // The blocks of the application.
+    pub fn application(self) -> Blocks
+        ensures first { result.first.0 ≡ self.a.0 }
+        ensures stop { result.stop.0 ≡ app_end self }
+    {
+        Blocks {
+            first: self.a,
+            stop: self.app_end(),
+        }
+    }
+
     // The talk after a fresh start or RESET.
     #[tactic(auto, using(crate::proofs::Laws::split_facts), unfolding(crate::specs::Session::app_end, crate::specs::Session::whole_upload))]
     pub fn fresh_talk(self) -> Talk
@@ -227,7 +238,7 @@ impl Board {
         let Some(at) = first.address() else {
             return false;
         };
-        (0 < len) & at.lies_in(len, self.a, self.app_end())
+        (0 < len) & at.lies_in(len, self.application())
     }
 
     fn range_rule(self, up: Upload) -> bool
@@ -239,7 +250,7 @@ impl Board {
     fn place_rule(self, phase: Phase, down: Download) -> bool
         ensures { result ≡ place_rule self phase down }
     {
-        !phase.runs() | down.place.lies_in(down.left, self.a, self.app_end())
+        !phase.runs() | down.place.lies_in(down.left, self.application())
     }
 }
 

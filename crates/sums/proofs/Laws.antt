@@ -7,11 +7,11 @@ use mathlib.Core.Logic.{◌⊎◌, inl, inr, ⊎_elim}
 use mathlib.Core.Path.{◌≡◌, refl, sym, ap, ap₂, ◌∙◌}
 use native.Mathlib.Decide.{dec_lt}
 use native.Mathlib.Omega.{arith}
-use lib.ListN.{length, get_or, take, drop, replicate, length-replicate, get_or-replicate}
+use lib.ListN.{length, get_or, replicate, length-replicate, get_or-replicate}
 use lib.Seq.{ext_get_or}
 use Rattle.crc.specs.Crc.{crc_of}
 use Rattle.crc.proofs.Values.{values_length, values_at}
-use Rattle.flash.specs.Flash.{start_of, range, spliced}
+use Rattle.flash.specs.Flash.{start_of, spliced}
 use Rattle.flash.proofs.Laws.{spliced_apart}
 use Rattle.sums.specs.Sum.{most_blocks, blocks_of, among, block_sum, sum_for, fresh_sums, renewed, refreshed, Right, SameBut}
 use Rattle.sums.specs.declared.Sums.{Sums}
@@ -26,12 +26,6 @@ side first stop k =
       | yes lt ↦ inr (inl lt)
       | no ge ↦ elim (dec_lt k stop) [ yes lt ↦ inl (omega arith, lt) | no ge' ↦ inr (inr (omega arith)) ]
     ]
-
-pub blocks_part :
-    (f : List ℕ) (first stop from to : ℕ) → from ≡ start_of first → to ≡ start_of stop
-    → take (to - from) (drop from f) ≡ blocks_of f first stop
-unfolding blocks_of range
-blocks_part f first stop from to p q = ap₂ (λ (x y : ℕ). take (y - x) (drop x f)) p q
 
 sum_inside : (f : List ℕ) (a e k : ℕ) → a ≤ k → k < e → sum_for f a e k ≡ block_sum f k
 unfolding sum_for

@@ -1,11 +1,8 @@
--- As `program`, with the bytes that an erase puts. Assumes nothing.
-use Prim.Native.Nat.{◌-◌, ◌≤◌}
-use Rattle.flash.proofs.Writing.{Written}
+-- The loop keeps a write in progress (Writing): the first i bytes are in place. Assumes nothing.
+use mathlib.Core.Path.{◌≡◌}
+use lib.Seq.{paste}
 use Rattle.flash.specs.Flash.{blank}
 use Rattle.flash.proofs.wipe.Given as goal
 
 abbrev pub invariant-loop-i : goal.invariant-loop-i
-invariant-loop-i l = (l.i ≤ l.n) × Written l.initial.flash l.from (blank l.n) l.flash l.i
-
-abbrev pub decreases-loop-i : goal.decreases-loop-i
-decreases-loop-i l = l.n - l.i
+invariant-loop-i l = l.flash ≡ paste l.initial.flash l.at.0 (blank l.n) l.i
