@@ -136,7 +136,8 @@ impl Site<'_> {
     #[tactic(auto, unfolding(crate::specs::Download::all_erased, answers::specs::Moves::fault_of, answers::specs::Moves::moved_to))]
     fn if_erased(&self, block: Block, len: u32, x: Decision) -> Decision
         requires { Within self.now.flash.now (start_of block.0) len }
-        ensures { planned self.now.session.now result ≡ if_erased self.now.session.now self.now.flash.now block.0 len (planned self.now.session.now x) }
+        ensures { planned self.now.session.now result
+            ≡ if_erased self.now.session.now self.now.flash.now block.0 len (planned self.now.session.now x) }
     {
         let found = flash::search(self.flash, block, len);
         let number = flash::found_number(found);
