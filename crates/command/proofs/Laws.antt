@@ -3,12 +3,14 @@ use Prim.Native.Nat.{ℕ, ◌-◌, ◌≤◌}
 use mathlib.Core.Bool.{Bool, true, false, cond, ◌&&◌}
 use mathlib.Core.List.{List}
 use mathlib.Core.Logic.{inl, ⊎_elim}
-use mathlib.Core.Path.{◌≡◌, refl, sym, subst}
+use mathlib.Core.Path.{◌≡◌, refl, sym, ap, ◌∙◌, subst}
 use native.Mathlib.Omega.{arith}
 use borrow.Author.Tests.{leb-true, eqb-false}
 use lib.Dec.{eqb, leb}
 use lib.ListN.{length, get_or, drop, length-drop}
-use Rattle.flash.specs.Flash.{start_of, Within}
+use Rattle.std.specs.Prelude.{Option}
+use Rattle.flash.specs.declared.Addr.{Addr}
+use Rattle.flash.specs.Flash.{start_of, Within, searched, nothing}
 use Rattle.sums.specs.Sum.{Split}
 use Rattle.session.specs.Codes.{idle, download_idle, check_erased, address, vendor}
 use Rattle.session.specs.Session.{app_end, no_download, with_unerased, fresh_of}
@@ -44,6 +46,13 @@ module _ (s : Session) (f : List ℕ) (r : Ready s f) where
 
   pub ready_range : (block len : ℕ) → in_application s.board block len ≡ true → Within f (start_of block) len
   ready_range block len e = ready_within (start_of block) len (ready-place block len e)
+
+-- what a search of a range tells, from its answer and whether that was nothing
+pub told-erased :
+    (f : List ℕ) (block len : ℕ) (found : Option Addr) → found ≡ searched f block len
+    → (r : Bool) → r ≡ nothing found → r ≡ all_erased f block len
+unfolding all_erased
+told-erased f block len found e r h = h ∙ ap nothing e
 
 -- what a plan picks by a test is the plan of what the outcome picks by it
 plan_cond : (t : Bool) (x y : Outcome) → cond t (plan_of x Job.Nothing) (plan_of y Job.Nothing) ≡ plan_of (cond t x y) Job.Nothing

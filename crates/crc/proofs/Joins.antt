@@ -11,6 +11,7 @@ use lib.Pow.{shr_lt}
 use lib.Bits.{bit_xor, xor_assoc, xor_comm, xor_self, xor_zero_l, xor_zero_r}
 use Rattle.crc.specs.Crc.{start, bit_step, bit_steps, byte_step, crc_from, crc_of}
 use Rattle.crc.specs.Join.{block_bits, joined, half_rows, past_halves}
+use Rattle.crc.specs.Values.{values}
 use Rattle.crc.proofs.Values.{values_at}
 use Rattle.crc.proofs.Bits.{parted}
 use Rattle.crc.proofs.Laws.{bits_xor}
@@ -56,6 +57,27 @@ crc_joined c block e =
     ∙ xor_comm (crc_of block) (bit_steps block_bits (bit_xor c start))
 
 -- ---- so many bits by half bytes
+
+-- an entry of the rows is what the bits make of its half byte at its place
+half_row :
+    (f : ℕ → ℕ) (n from place : ℕ) → place < n
+    → get_or (half_rows f from n) place [] ≡ values (λ digit. f (digit * 2 ^ ((from + place) * 4))) 0 16
+unfolding half_rows
+half_row f zero from place lt = let no : ⊥ = omega arith in absurd no
+half_row f (suc n) from zero lt =
+    let here : from ≡ from + 0 = omega arith in ap (λ (m : ℕ). values (λ digit. f (digit * 2 ^ (m * 4))) 0 16) here
+half_row f (suc n) from (suc place) lt =
+    let on : from + 1 + place ≡ from + suc place = omega arith in
+    half_row f n (from + 1) place (omega arith) ∙ ap (λ (m : ℕ). values (λ digit. f (digit * 2 ^ (m * 4))) 0 16) on
+
+pub half_at :
+    (bits place d : ℕ) → place < 8 → d < 16
+    → get_or (get_or (past_halves bits) place []) d 0 ≡ bit_steps bits (d * 2 ^ (place * 4))
+unfolding past_halves
+half_at bits place d near few =
+    ap (λ (row : List ℕ). get_or row d 0) (half_row (bit_steps bits) 8 0 place near)
+    ∙ values_at _ 16 d few
+    ∙ ap (λ (m : ℕ). bit_steps bits (d * 2 ^ (m * 4))) (zero-add place)
 
 -- the xor of what the half bytes of a number pick from rows, the lowest from the first
 unfoldable pub picked : List (List ℕ) → ℕ → ℕ

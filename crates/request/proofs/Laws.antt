@@ -1,7 +1,8 @@
 -- Laws of the requests: a request has its form, and the table says what the states allow.
 use Prim.Native.Nat.{ℕ, ◌≤◌, ◌<◌}
 use mathlib.Core.Path.{◌≡◌, refl, sym, ◌∙◌}
-use mathlib.Core.Bool.{Bool, true, false, cond, ◌&&◌}
+use mathlib.Core.Bool.{Bool, true, false, cond, not, ◌&&◌, and-true, or-false}
+use native.Mathlib.Decide.{ℕ_discrete}
 use mathlib.Core.List.{List, [], ◌∷◌, map}
 use Rattle.std.specs.Prelude.{Option, Some, None}
 use lib.Dec.{eqb, leb}
@@ -125,3 +126,25 @@ module _ (r : Request) (n : ℕ) where
   unfolding entry
   in_table i j e f h =
       rw (e, f) (entries r n (sym (column_known n) ∙ lt-ltb (column_of n) (length states) (rw f at h)))
+
+-- the table and the one case that it leaves: a DNLOAD of no bytes in state idle
+dnload_empty :
+    (bytes n : ℕ) → (allowed_of Dnload 1 n && not (eqb n idle && eqb bytes 0)) ≡ allowed_of Dnload bytes n
+unfolding allowed_of
+dnload_empty bytes n =
+    elim (ℕ_discrete n idle) [
+      | yes e ↦ rw e (sym (or-false (not (eqb bytes 0))))
+      | no e ↦ rw (ne_eqb n idle e) (and-true (eqb n download_idle))
+    ]
+
+pub not_empty :
+    (r : Request) (bytes n : ℕ)
+    → (allowed_of r 1 n && not (eqb (row_of r) 0 && eqb n idle && eqb bytes 0)) ≡ allowed_of r bytes n
+unfolding allowed_of
+not_empty Dnload bytes n = dnload_empty bytes n
+not_empty Upload bytes n = and-true _
+not_empty GetStatus bytes n = and-true _
+not_empty ClrStatus bytes n = and-true _
+not_empty GetState bytes n = and-true _
+not_empty Abort bytes n = and-true _
+not_empty Query bytes n = and-true _
