@@ -14,6 +14,7 @@ use flash::{Addr, Block, Blocks};
 use session::{Board, Session};
 use sums::Sums;
 
+// One of three, and no Option around two: to leave flash alone is what most calls ask for, and each match has its arm for it either way.
 #[derive(Clone, Copy)]
 pub enum Job {
     // Flash stays as it is.

@@ -29,8 +29,7 @@ fn sum_of(flash: &[u8], block: Block) -> u32
     crc::sum(&flash[from..to])
 }
 
-// The sums of some blocks anew, in place. Those blocks alone are read. By number, since a proof knows no element that was written through
-// `iter_mut`.
+// The sums of some blocks anew, in place. Those blocks alone are read. By number, since both the place and the block are told by it.
 fn renew(block: &mut [u32; MOST], flash: &[u8], changed: Blocks)
     requires { Split flash.now changed.first.0 changed.stop.0 }
     ensures { block.new ≡ renewed block.old flash.now changed.first.0 (changed.stop.0 - changed.first.0) }
@@ -63,17 +62,14 @@ pub fn refresh(kept: Sums, flash: &[u8], app: Blocks, changed: Blocks) -> Sums
     sums
 }
 
-// The sums of a flash, with nothing kept. Like a refresh of zeros, and not by one: with two callers each, the compiler leaves `renew` and
-// `whole_of` calls of their own, whose tables then take stack one after the other and not beside a copy of the sums.
+// The sums of a flash: those of the application anew, over zeros.
 pub fn fresh(flash: &[u8], app: Blocks) -> Sums
     requires { Split flash.now app.first.0 app.stop.0 }
     ensures { result ≡ fresh_sums flash.now app.first.0 app.stop.0 }
 {
-    let mut fresh = Sums {
+    let none = Sums {
         block: [0; MOST],
         whole: 0,
     };
-    renew(&mut fresh.block, flash, app);
-    fresh.whole = whole_of(&fresh.block, app);
-    fresh
+    refresh(none, flash, app, app)
 }
