@@ -65,7 +65,7 @@ fn read(s: Session, block: Block, len: u32) -> Heard
 fn erase(s: Session, block: Block, count: u16) -> Decision
     ensures { planned s result ≡ erase_of s block.0 count }
 {
-    let count = count as u32;
+    let count = u32::from(count);
     let size = Block(count).start();
     if !s.board.in_application(block, size.0) {
         return fault(s, Status::ADDRESS);
@@ -182,7 +182,7 @@ impl Site<'_> {
         requires { 8 ≤ length d.now }
         ensures { planned self.now.session.now result ≡ by_number (number_of command) self.now.session.now self.now.flash.now d.now }
     {
-        let block = Block(numbers::word(d, 2) as u32);
+        let block = Block(u32::from(numbers::word(d, 2)));
         let len = numbers::long(d, 4);
         match command {
             Command::Prog => self.prog(block, len, d.len() - 8),

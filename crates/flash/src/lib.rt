@@ -80,7 +80,7 @@ impl Addr {
         let (Some(low), Some(high)) = (blocks.first.address(), blocks.stop.address()) else {
             return false;
         };
-        (low <= self) & ((self.0 as u64) + (n as u64) <= high.0 as u64)
+        (low <= self) & (u64::from(self.0) + u64::from(n) <= u64::from(high.0))
     }
 }
 

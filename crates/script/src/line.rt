@@ -8,7 +8,8 @@ use answers::Outcome;
 use std::fmt;
 use sums::MOST;
 
-// The last three are the sums of the kept block sums, of the whole reply buffer and of the flash.
+// State and status are the numbers that are written. The last three are the sums of the kept block sums, of the whole reply buffer and of
+// the flash.
 #[derive(Clone, Copy, Debug, PartialEq, Eq)]
 pub struct Line {
     answer: u32,

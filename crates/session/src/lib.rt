@@ -147,9 +147,9 @@ impl Upload {
         if self.choice == Upload::INFO_BYTES {
             INFO_LENGTH
         } else if self.prefix == 1 {
-            PREFIX_LENGTH + self.len as u64
+            PREFIX_LENGTH + u64::from(self.len)
         } else {
-            self.len as u64
+            u64::from(self.len)
         }
     }
 
@@ -299,7 +299,7 @@ impl Phase {
         ensures { result ≡ upload_rule self up }
     {
         ((self.state == State::UPLOAD_IDLE) | (up.place == 0))
-            & ((up.place as u64) <= up.stream_length())
+            & (u64::from(up.place) <= up.stream_length())
     }
 }
 
