@@ -28,7 +28,7 @@ pub struct Outcome {
     pub session: Session,
 }
 
-// What the host hears, and how the talk goes on from there: what is decided of an outcome.
+// What the host hears, and how the talk goes on from there: what is decided of an outcome. No generic of the two: each is promised by its fields.
 #[derive(Clone, Copy)]
 pub struct Heard {
     pub answer: Answer,

@@ -40,6 +40,7 @@ fn write(s: Session, at: Addr, skip: u32, n: u32, left: u32) -> Decision
     }
 }
 
+// A decision like any other, and no Err: its talk goes on, and after a search it tells an address, so a caller would turn it back into one.
 fn fault(s: Session, status: Status) -> Decision
     ensures { planned s result ≡ fault_plan s status.0 }
 {
@@ -122,7 +123,7 @@ fn well_formed(d: &[u8]) -> Option<Command>
     }
 }
 
-// A session with the flash of its board, once a call has been found fit.
+// A session with the flash of its board, once a call has been found fit. Private: `dnload` is handed both as they are, and asks for the fact.
 #[derive(Clone, Copy)]
 struct Site<'a> {
     session: &'a Session,

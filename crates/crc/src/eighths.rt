@@ -29,7 +29,8 @@ fn step_all(sums: &mut [u32; 8])
 }
 
 // The eighths of a part of so many bytes. The first goes on from the running value, the others start from nothing. In a turn each takes
-// four bytes, and all take a step before any takes the next, so that the steps at hand never wait for each other.
+// four bytes, and all take a step before any takes the next, so that the steps at hand never wait for each other. Its four steps are written one
+// by one: they would be a loop within the loop.
 fn eighths<const PART: usize>(running: u32, part: &[u8]) -> [u32; 8]
     requires part_length { length part.now ≡ PART }
     requires whole_turns { PART % 32 ≡ 0 }

@@ -5,7 +5,8 @@ ghost use Rattle.crc.specs.Crc.{bit_steps};
 ghost use Rattle.crc.specs.Join.{past_halves};
 ghost use Rattle.crc.specs.Eighths.{joined_past, eighths_join};
 
-// A table, lent with what is known of it. The constants below refer to theirs, so each is read where it lies and takes no stack.
+// A table, lent with what is known of it. The constants below refer to theirs, so each is read where it lies and takes no stack. They are written
+// out, as a constant can't be computed by a call.
 pub struct Halves<const BITS: usize> {
     rows: &'static [[u32; 16]; 8],
     ghost rule: { rows.now ≡ past_halves BITS },

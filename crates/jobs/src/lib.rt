@@ -19,7 +19,8 @@ use sums::Sums;
 pub enum Job {
     // Flash stays as it is.
     Nothing,
-    // The call's data, but for the first `skip` bytes of it, goes to `at` and upward.
+    // The call's data, but for the first `skip` bytes of it, goes to `at` and upward. A number and no slice, which would tie every decision to
+    // the data's lifetime.
     Bytes { at: Addr, skip: u32 },
     // So many blocks are erased, from `first` on.
     Wipe { first: Block, count: u32 },

@@ -25,7 +25,7 @@ fn allowed_start(flash_len: usize, a: Block, b: Block) -> bool
 }
 
 // The fresh session of a board, with the sums of its flash; answer 2 and a session of zeros where A, B or the length is wrong.
-// No Result: C is handed a session either way.
+// No Result: its promise is of a whole outcome, refused or not, with a session in it either way.
 #[tactic(auto, unfolding(crate::specs::Step::start_outcome, crate::specs::Step::fresh_start, crate::specs::Step::startable))]
 pub fn start(flash: &[u8], a: Block, b: Block, part0: u32, part1: u32) -> Outcome
     ensures { told result ≡ start_outcome flash.now a.0 b.0 part0 part1 }
@@ -42,7 +42,7 @@ pub fn start(flash: &[u8], a: Block, b: Block, part0: u32, part1: u32) -> Outcom
     Outcome {
         answer: Answer::Taken,
         count: 0,
-        session: Session::fresh(a, b, part0, part1, sums),
+        session: Session::fresh(board, sums),
     }
 }
 
@@ -66,7 +66,7 @@ fn prepared(
     ready.then_some(parts)
 }
 
-// What an allowed request does. A match over the enum, which is plainer than a table of functions: no two arms take the same arguments.
+// What an allowed request does. A match over the enum: its arms take four sets of arguments, so a table of functions would be no plainer.
 fn serve(r: Request, s: Session, flash: &[u8], asked: u32, d: &[u8], reply: &mut [u8]) -> Decision
     requires { Served r s flash.now asked (length reply.old) }
     ensures { decided (planned s result) reply.new ≡ served r s flash.now asked d.now reply.old }

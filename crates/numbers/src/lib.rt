@@ -4,7 +4,8 @@
 ghost use Rattle.std.specs.Prelude.{◌+◌, ◌≤◌, ◌<◌, ◌≡◌, length, take};
 ghost use Rattle.numbers.specs.Numbers.{word_at, long_at, bytes4};
 
-// The 16-bit number at a place. It and the next are the library's two calls at two types: nothing here is generic over a number's width.
+// The 16-bit number at a place. It and the next are the library's two calls at two types: one generic function would want a trait with a law for
+// them, which is no plainer. Slice and place are two parameters, since callers read several numbers of one slice.
 pub fn word(bytes: &[u8], at: usize) -> u16
     requires { at + 1 < length bytes.now }
     ensures { result ≡ word_at bytes.now at }

@@ -4,8 +4,8 @@
 ghost use Rattle.std.specs.Prelude.{◌+◌, ◌≤◌, length};
 ghost use Rattle.pieces.specs.Pieces.{Laid};
 
-// Lays bytes from a place on, and answers the place behind them. Buffer and place are no struct: callers in C lend the buffer, so the
-// place is the only state, and each caller threads it through two or three calls; a struct would be no plainer.
+// Lays bytes from a place on, and answers the place behind them. Buffer and place are no struct: `Laid` speaks of a plain list, and each caller
+// threads the place through two or three calls; a struct would be no plainer.
 #[tactic(auto, using(std::proofs::lemmas::List::Edits::paste_more))]
 pub fn put(bytes: &[u8], buffer: &mut [u8], at: usize) -> usize
     requires { at + length bytes.now ≤ length buffer.old }

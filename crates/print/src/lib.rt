@@ -17,7 +17,7 @@ fn digit(n: u32) -> u8
     if d < 10 { b'0' + d } else { b'A' - 10 + d }
 }
 
-// The eight hexadecimal digits of a number, in upper case, the most significant first.
+// The eight hexadecimal digits of a number, in upper case, the most significant first: for a text in a lent buffer, with no heap.
 pub fn hex8(x: u32) -> [u8; 8]
     ensures { result ≡ hex_of x }
 {

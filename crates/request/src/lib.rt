@@ -71,7 +71,7 @@ impl fmt::Display for UnknownCommand {
 
 impl Error for UnknownCommand {}
 
-// The parts of a setup: bmRequestType, bRequest, wValue, wIndex, wLength.
+// The parts of a setup: bmRequestType, bRequest, wValue, wIndex, wLength. Numbers as they came, since most are no request's.
 #[derive(Clone, Copy, Debug, PartialEq, Eq)]
 pub struct Setup {
     pub kind: u8,

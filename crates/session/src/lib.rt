@@ -4,7 +4,7 @@
 
 ghost use Rattle.std.specs.Prelude.{◌≡◌, true};
 ghost use Rattle.session.specs.Codes.{column_of, error_status};
-ghost use Rattle.session.specs.Session.{allowed_split, board_of, app_end, stream_length, talk_of, fresh_talk, fresh_of, zeros_of};
+ghost use Rattle.session.specs.Session.{allowed_split, app_end, stream_length, talk_of, fresh_talk, fresh_of, zeros_of};
 ghost use Rattle.session.specs.Rules.{state_rule, status_rule, running, download_rule, upload_rule};
 ghost use Rattle.session.specs.Rules.{after_rule, in_application, range_rule, place_rule, flags_rule, fit_of};
 
@@ -36,7 +36,8 @@ impl State {
     // How many states there are.
     pub const COUNT: usize = 6;
 
-    // A state's column in tables, counted in the order above; what is no state comes behind them all.
+    // A state's column in tables, counted in the order above; what is no state comes behind them all, which every reader of a table asks
+    // anyway, so that an Option would be no plainer.
     pub fn column(self) -> usize
         ensures { result ≡ column_of self.0 }
     {
@@ -161,7 +162,8 @@ impl Upload {
 }
 
 // Where the talk with the host stands: all of a session that a decision changes. What is decided hands on this and no session, since the
-// sums of all blocks are large, and each session that is handed back would be a copy of them on the stack.
+// sums of all blocks are large, and each session that is handed back would be a copy of them on the stack. A session has these fields one by one,
+// since C's struct has them so.
 #[derive(Clone, Copy)]
 pub struct Talk {
     pub phase: Phase,
@@ -306,11 +308,10 @@ impl Phase {
 impl Session {
     // The session after a fresh start.
     #[tactic(auto, unfolding(crate::specs::Session::fresh_of))]
-    pub fn fresh(a: Block, b: Block, part0: u32, part1: u32, sums: Sums) -> Session
-        requires { allowed_split a.0 b.0 ≡ true }
-        ensures { result ≡ fresh_of (board_of a.0 b.0 part0 part1) sums }
+    pub fn fresh(board: Board, sums: Sums) -> Session
+        requires { allowed_split board.a.0 board.b.0 ≡ true }
+        ensures { result ≡ fresh_of board sums }
     {
-        let board = Board { a, b, part0, part1 };
         let talk = board.fresh_talk();
         Session {
             board,
@@ -322,7 +323,8 @@ impl Session {
         }
     }
 
-    // The session that a refused start hands back: every call finds it unfit.
+    // The session that a refused start hands back: every call finds it unfit. The sums are written out, as a derived Default says of each element
+    // of an array that it is zero, and the proof didn't close with that.
     #[tactic(auto, unfolding(crate::specs::Session::zeros_of))]
     pub fn zeros() -> Session
         ensures { result ≡ zeros_of }

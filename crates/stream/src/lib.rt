@@ -10,7 +10,7 @@ use flash::BLOCK;
 use request::Command;
 use session::{Board, Upload};
 
-// The info bytes, one by one: there is no call that joins arrays, and copies to ranges would count places by hand.
+// The info bytes, one by one: without heap no call joins arrays of different sizes.
 #[tactic(auto, unfolding(crate::specs::Stream::info_stream))]
 fn info(board: Board, unerased: u32) -> [u8; 24]
     requires { (start_of (app_end board) < 2 ^ 32) × (start_of board.a.0 < 2 ^ 32) }
@@ -30,7 +30,7 @@ fn info(board: Board, unerased: u32) -> [u8; 24]
     ]
 }
 
-// A PROG header for the read range, so that what was read can be sent back as it is.
+// A PROG header for the read range, so that what was read can be sent back as it is. One by one, as the info bytes.
 #[tactic(auto, unfolding(crate::specs::Stream::header_of))]
 fn header(up: Upload) -> [u8; 8]
     ensures { result ≡ header_of up }
@@ -50,7 +50,7 @@ fn header(up: Upload) -> [u8; 8]
 }
 
 // As many of the bytes as there is room for to the front of the reply, and how many they were. A loop, since the library's own copy of a slice
-// would want memmove of whoever links the calls.
+// would want memmove of whoever links the calls, where the length is known only when it runs.
 fn put(bytes: &[u8], reply: &mut [u8]) -> usize
     ensures { Sent result reply.old reply.new (take (length reply.old) bytes.now) }
 {
@@ -102,7 +102,8 @@ fn send_range(up: Upload, flash: &[u8], from: usize, reply: &mut [u8]) -> usize
     }
 }
 
-// The next bytes of the chosen stream to the front of the reply, and how many they are.
+// The next bytes of the chosen stream to the front of the reply, and how many they are. What it reads of a session is handed over one by one, as
+// its promise names it.
 pub fn send(
     board: Board,
     unerased: u32,

@@ -62,7 +62,7 @@ pub fn refresh(kept: Sums, flash: &[u8], app: Blocks, changed: Blocks) -> Sums
     sums
 }
 
-// The sums of a flash: those of the application anew, over zeros.
+// The sums of a flash: those of the application anew, over zeros, which are written out: with a derived Default the proof didn't close.
 pub fn fresh(flash: &[u8], app: Blocks) -> Sums
     requires { Split flash.now app.first.0 app.stop.0 }
     ensures { result ≡ fresh_sums flash.now app.first.0 app.stop.0 }

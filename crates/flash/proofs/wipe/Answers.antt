@@ -8,9 +8,6 @@ use Rattle.flash.proofs.Laws.{length-blank}
 use Rattle.flash.proofs.Writing.{put_none, put_more, put_all, blank_byte}
 use Rattle.flash.proofs.wipe.Goals as goal
 
-pub loop-i-init : goal.loop-i-init
-loop-i-init c = put_none c.args.flash.now c.args.at.0 (blank c.args.n)
-
 pub loop-i-preserved : goal.loop-i-preserved
 loop-i-preserved c =
     let l = c.loop-i in
