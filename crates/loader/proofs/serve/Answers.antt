@@ -14,9 +14,6 @@ dnload-requires c =
     let at = ap (λ (q : Request). allowed_of q c.args.asked c.args.s.phase.state.0) told in
     record { ready = c.requires.prepared; loading = allowed_loading _ c.args.asked (at ∙ c.requires.permitted) }
 
-pub upload-requires : goal.upload-requires
-upload-requires c = record { ready = c.requires.prepared; asked_bound = (c.requires.few c.in-Upload.is, c.requires.roomy) }
-
 pub returns-in-Dnload : goal.returns-in-Dnload
 unfolding served
 returns-in-Dnload c = as_told _ _ _ _ _ _ _ _ c.in-Dnload.is (ap (λ (x : Plan). decided x c.args.reply.now) c.dnload.ensures)
