@@ -1,10 +1,11 @@
--- Laws of the requests: a request has its form, and the table says what the states allow.
-use Prim.Native.Nat.{ℕ, ◌≤◌, ◌<◌}
-use mathlib.Core.Path.{◌≡◌, refl, sym, ◌∙◌}
+-- Laws of the requests: a request has its form, the table says what the states allow, and a number is read as one command or as none.
+use Prim.Native.Nat.{ℕ, zero, suc, ◌≤◌, ◌<◌}
+use mathlib.Core.Path.{◌≡◌, refl, sym, ap, ◌∙◌}
 use mathlib.Core.Bool.{Bool, true, false, cond, not, ◌&&◌, and-true, or-false}
 use native.Mathlib.Decide.{ℕ_discrete}
 use mathlib.Core.List.{List, [], ◌∷◌, map}
-use Rattle.std.specs.Prelude.{Option, Some, None}
+use native.Mathlib.Omega.{arith}
+use Rattle.std.specs.Prelude.{Option, Some, None, Result, Ok, Err}
 use lib.Dec.{eqb, leb}
 use lib.ListN.{length, get_or}
 use borrow.Author.Tests.{eqb-true, leb-true, ne_eqb, lt-ltb, le-ltb}
@@ -18,6 +19,10 @@ use Rattle.request.specs.declared.Request.TheVariants.{Dnload, Upload, GetStatus
 use Rattle.request.specs.declared.Request.TheVariants.{GetState, Abort, Query}
 use Rattle.request.specs.Request.{setup_of, has_form, in_form, form_of, request_of, w_length, data_asked}
 use Rattle.request.specs.Request.{allowed_of, row_of}
+use Rattle.request.specs.declared.Command.{Command}
+use Rattle.request.specs.declared.Command.TheVariants.{Prog, Read, Check, Erase, Info, Bin, Reset}
+use Rattle.request.specs.declared.UnknownCommand.{UnknownCommand}
+use Rattle.request.specs.Commands.{number_of, reset, Decodes}
 
 -- what holds of both picks where the test led to them holds of the pick
 picked :
@@ -148,3 +153,42 @@ not_empty ClrStatus bytes n = and-true _
 not_empty GetState bytes n = and-true _
 not_empty Abort bytes n = and-true _
 not_empty Query bytes n = and-true _
+
+-- the command of a number
+command_by : ℕ → Command
+command_by (suc zero) = Prog
+command_by (suc (suc zero)) = Read
+command_by (suc (suc (suc zero))) = Check
+command_by (suc (suc (suc (suc zero)))) = Erase
+command_by (suc (suc (suc (suc (suc zero))))) = Info
+command_by (suc (suc (suc (suc (suc (suc zero)))))) = Bin
+command_by n = Reset
+
+command_back : (c : Command) → command_by (number_of c) ≡ c
+unfolding command_by
+command_back Prog = refl
+command_back Read = refl
+command_back Check = refl
+command_back Erase = refl
+command_back Info = refl
+command_back Bin = refl
+command_back Reset = refl
+
+-- a command's number isn't one that is none's
+numbered : (c : Command) → (0 < number_of c) × (number_of c ≤ reset)
+numbered Prog = (omega arith, omega arith)
+numbered Read = (omega arith, omega arith)
+numbered Check = (omega arith, omega arith)
+numbered Erase = (omega arith, omega arith)
+numbered Info = (omega arith, omega arith)
+numbered Bin = (omega arith, omega arith)
+numbered Reset = (omega arith, omega arith)
+
+-- no second reading fits a number: it is one command's, or none's and told as it came
+pub decoded_once : (n : ℕ) (r q : Result Command UnknownCommand) → Decodes n r → Decodes n q → r ≡ q
+decoded_once n (Ok c) (Ok d) h k = ap (λ (x : Command). Ok x) (sym (command_back c) ∙ ap command_by (h ∙ sym k) ∙ command_back d)
+decoded_once n (Ok c) (Err e) h k = absurd (omega (arith, h, k.1, numbered c))
+decoded_once n (Err e) (Ok d) h k = absurd (omega (arith, k, h.1, numbered d))
+decoded_once n (Err e) (Err f) h k =
+    let same : e.0 ≡ f.0 = omega (arith, h.0, k.0) in
+    ap (λ (m : ℕ). Err (record { 0 = m })) same

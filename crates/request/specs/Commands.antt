@@ -1,5 +1,6 @@
 -- The numbers of the eight-byte commands.
-use Rattle.std.specs.Prelude.{ℕ, ◌<◌, ◌≡◌, ◌⊎◌, Result, MatchResult}
+use Rattle.std.specs.Prelude.{ℕ, ◌<◌, List, ◌++◌, ◌≡◌, ◌⊎◌, Result, MatchResult, codes}
+use Rattle.std.specs.Fmt.{decimal}
 use Rattle.request.specs.declared.Command.{Command}
 use Rattle.request.specs.declared.Command.TheVariants.{Prog, Read, Check, Erase, Info, Bin, Reset}
 use Rattle.request.specs.declared.UnknownCommand.{UnknownCommand}
@@ -38,3 +39,7 @@ number_of Reset = reset
 -- what a number is read as: the command with this number, or that it is no command's
 abbrev pub Decodes : ℕ → Result Command UnknownCommand → Type 0
 Decodes number r = MatchResult r (λ command. number_of command ≡ number) (λ e. (e.0 ≡ number) × ((number ≡ 0) ⊎ (reset < number)))
+
+-- the refusal of a number in words
+abbrev pub unknown_words : UnknownCommand → List ℕ
+unknown_words e = codes "no command has number " ++ decimal e.0

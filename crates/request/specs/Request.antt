@@ -20,6 +20,10 @@ setup_of bytes =
     })
     (record { kind = 0; number = 0; value = 0; index = 0; length = 0 })
 
+-- what bytes are read as: the parts of eight, and of no others
+abbrev pub read_of : List ℕ → Option Setup
+read_of bytes = cond (eqb (length bytes) 8) (Some (setup_of bytes)) None
+
 -- type, number, wIndex 0, and wLength from the least to the most
 abbrev pub has_form : Setup → ℕ → ℕ → ℕ → ℕ → Bool
 has_form s kind number least most =

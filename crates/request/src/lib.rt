@@ -1,9 +1,10 @@
 // What the host asks: eight setup bytes to one of seven requests or none, the table of requests by states, and the eight-byte commands.
 #![tactic(auto)]
 
-ghost use Rattle.std.specs.Prelude.{◌≡◌, ◌↔◌, IsSome, IfSome, length};
-ghost use Rattle.request.specs.Commands.{number_of, Decodes};
-ghost use Rattle.request.specs.Request.{setup_of, form_of, data_for, allowed_of, row_of};
+ghost use Rattle.std.specs.Prelude.{◌≡◌, ◌↔◌, IsSome, IfSome, Some, length};
+ghost use Rattle.request.specs.Commands.{number_of, Decodes, unknown_words};
+ghost use Rattle.request.specs.Request.{setup_of, read_of, form_of, data_for, request_of, w_length, data_asked};
+ghost use Rattle.request.specs.Request.{allowed_of, row_of};
 
 use session::State;
 use std::error::Error;
@@ -64,6 +65,8 @@ impl From<Command> for u8 {
 }
 
 impl fmt::Display for UnknownCommand {
+    ghost output = { λ unknown. Some (unknown_words unknown) };
+
     fn fmt<W: fmt::Write>(&self, f: &mut fmt::Formatter<W>) -> fmt::Result {
         write!(f, "no command has number {}", self.0)
     }
@@ -101,6 +104,7 @@ impl Setup {
     // What isn't 8 bytes has no parts.
     #[tactic(auto, unfolding(crate::specs::Request::setup_of))]
     pub fn read(bytes: &[u8]) -> Option<Setup>
+        ensures reading { result ≡ read_of bytes.now }
         ensures eight { IsSome result ↔ (length bytes.now ≡ 8) }
         ensures parts { IfSome result (λ s. s ≡ setup_of bytes.now) }
     {
@@ -146,6 +150,30 @@ impl Setup {
             0
         }
     }
+}
+
+// The request that setup bytes are.
+#[tactic(auto, unfolding(crate::specs::Request::setup_of, crate::specs::Request::form_of))]
+pub fn read_setup(setup: &[u8]) -> Option<Request>
+    ensures { result ≡ request_of setup.now }
+{
+    Setup::read(setup)?.request()
+}
+
+// How many bytes setup bytes speak of: 0 where they are no setup.
+#[tactic(auto, unfolding(crate::specs::Request::setup_of))]
+pub fn length_of(setup: &[u8]) -> u32
+    ensures { result ≡ w_length setup.now }
+{
+    Setup::read(setup).map_or(0, |s| u32::from(s.length))
+}
+
+// How many data bytes come with setup bytes, of whatever form the rest is.
+#[tactic(auto, unfolding(crate::specs::Request::setup_of, crate::specs::Request::data_asked))]
+pub fn data_asked(setup: &[u8]) -> u32
+    ensures { result ≡ data_asked setup.now }
+{
+    Setup::read(setup).map_or(0, |s| u32::from(s.data_asked()))
 }
 
 impl Request {

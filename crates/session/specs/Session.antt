@@ -1,6 +1,7 @@
 -- The session: its groups of fields, a setter for each that changes and for the talk as a whole, the fresh session and the session of
 -- zeros.
 use Rattle.std.specs.Prelude.{ℕ, ◌+◌, ◌-◌, ◌*◌, Bool, cond, ◌&&◌, eqb, leb, ltb, replicate}
+use Rattle.flash.specs.declared.Blocks.{Blocks}
 use Rattle.flash.specs.Flash.{block_size, nowhere}
 use Rattle.sums.specs.declared.Sums.{Sums}
 use Rattle.sums.specs.Sum.{most_blocks}
@@ -23,6 +24,10 @@ board_of a b part0 part1 = record { a = record { 0 = a }; b = record { 0 = b }; 
 -- the block after the application's last: B
 unfoldable pub app_end : Board → ℕ
 app_end board = board.b.0
+
+-- the blocks of the application: from A to the one before B
+abbrev pub application_of : Board → Blocks
+application_of board = record { first = record { 0 = board.a.0 }; stop = record { 0 = app_end board } }
 
 -- a state, its status and the state after sync
 abbrev pub phase_of : ℕ → ℕ → ℕ → Phase

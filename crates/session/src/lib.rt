@@ -4,7 +4,8 @@
 
 ghost use Rattle.std.specs.Prelude.{◌≡◌, true};
 ghost use Rattle.session.specs.Codes.{column_of, error_status};
-ghost use Rattle.session.specs.Session.{allowed_split, app_end, stream_length, talk_of, fresh_talk, fresh_of, zeros_of};
+ghost use Rattle.session.specs.Session.{allowed_split, app_end, application_of, stream_length, talk_of};
+ghost use Rattle.session.specs.Session.{fresh_talk, fresh_of, zeros_of};
 ghost use Rattle.session.specs.Rules.{state_rule, status_rule, running, download_rule, upload_rule};
 ghost use Rattle.session.specs.Rules.{after_rule, in_application, range_rule, place_rule, flags_rule, fit_of};
 
@@ -203,6 +204,7 @@ impl Board {
 
     // The blocks of the application.
     pub fn application(self) -> Blocks
+        ensures blocks { result ≡ application_of self }
         ensures first { result.first.0 ≡ self.a.0 }
         ensures stop { result.stop.0 ≡ app_end self }
     {

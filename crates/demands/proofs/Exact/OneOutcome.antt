@@ -7,6 +7,7 @@ use Rattle.flash.specs.declared.Addr.{Addr}
 use Rattle.std.proofs.Common.{Option, Some, None}
 use Rattle.flash.proofs.Unerased.{found_below}
 use Rattle.session.specs.Session.{talk_of}
+use Rattle.request.proofs.Laws.{decoded_once}
 use Rattle.answers.specs.declared.Answer.{Answer}
 use Rattle.answers.specs.declared.Heard.{Heard}
 use Rattle.answers.specs.declared.Outcome.{Outcome}
@@ -59,6 +60,7 @@ OneOutcome_holds =
       heard = λ s h k e. ap told e;
       decision = λ s x y e. ap (λ (p : Plan). decision_of (told p.outcome) p.job) e;
       sent = λ n m before after other bytes e h. (e.count ∙ sym h.count, e.reply ∙ sym h.reply);
+      command = decoded_once;
       word = λ bytes at r q e h. e.0 ∙ sym h.0;
       answer = λ x y e. sym (back x) ∙ ap of_number e ∙ back y;
       found = λ f g block len first n v w.

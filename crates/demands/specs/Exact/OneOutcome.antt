@@ -1,10 +1,13 @@
 -- Exact: no second outcome fits.
-use Rattle.std.specs.Prelude.{ℕ, ◌<◌, List, ◌≡◌}
+use Rattle.std.specs.Prelude.{ℕ, ◌<◌, List, Result, ◌≡◌}
 use Rattle.flash.specs.Flash.{start_of, Within, searched, found_number}
 use Rattle.session.specs.declared.Talk.{Talk}
 use Rattle.session.specs.declared.Session.{Session}
 use Rattle.session.specs.Session.{with_talk}
 use Rattle.numbers.specs.Numbers.{word_at}
+use Rattle.request.specs.declared.Command.{Command}
+use Rattle.request.specs.declared.UnknownCommand.{UnknownCommand}
+use Rattle.request.specs.Commands.{Decodes}
 use Rattle.stream.specs.Stream.{Sent}
 use Rattle.answers.specs.declared.Answer.{Answer}
 use Rattle.answers.specs.declared.Heard.{Heard}
@@ -17,7 +20,9 @@ use Rattle.demands.specs.Commanded.{SearchLeaves}
 
 -- no second outcome fits, on the refused inputs too
 pub record OneOutcome : Type 1 where
-  -- the promise of every public call but two is an equation: all that it leaves, as one value, is what one definition says
+  -- the promise of every public call but two is an equation: all that it leaves, as one value, is what one definition says. The two
+  -- have fields of their own, `sent` and `command`; the law of those that lay bytes is `one_laid` (pieces), that of a `files::Counted`
+  -- `one_counted` (files)
   pub equation : {A : Type 0} (said left other : A) → left ≡ said → other ≡ said → left ≡ other
   -- so it is for a start and for a request
   pub start :
@@ -34,7 +39,9 @@ pub record OneOutcome : Type 1 where
   pub sent :
       (n m : ℕ) (before after other bytes : List ℕ) → Sent n before after bytes → Sent m before other bytes
       → (n ≡ m) × (after ≡ other)
-  -- numbers::word promises a bound beside its equation
+  -- a number is read as the command that has it, or told as none's where no command has it
+  pub command : (number : ℕ) (r q : Result Command UnknownCommand) → Decodes number r → Decodes number q → r ≡ q
+  -- numbers::word has 16 bits by its type; a bound that stands beside its equation leaves no second number either
   pub word :
       (bytes : List ℕ) (at r q : ℕ) → (r ≡ word_at bytes at) × (r < 65536) → (q ≡ word_at bytes at) × (q < 65536) → r ≡ q
   -- and an answer is told by its number
