@@ -8,7 +8,7 @@ use native.Mathlib.Omega.{arith}
 use lib.ListN.{get_or, take, set, replicate}
 use Rattle.bundle.specs.declared.Refusal.TheVariants.{Short, Count, Table, Offset, Empty, Past, LeftOver}
 use Rattle.std.specs.Prelude.{Ok, Err}
-use Rattle.bundle.specs.declared.Unwritten.TheVariants.{WrongCount, EmptyImage, NoRoom, WrongLengths}
+use Rattle.bundle.specs.declared.reasons.Unwritten.TheVariants.{WrongCount, EmptyImage, NoRoom, WrongLengths}
 use Rattle.bundle.specs.Bundle.{entries_of, bundle_of, read_from, read_of, part_of, image_of, fits_in, total, left, write_of}
 use Rattle.bundle.specs.Claims.{Legal, bundled}
 

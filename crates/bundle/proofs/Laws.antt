@@ -13,7 +13,7 @@ use Rattle.numbers.specs.Numbers.{bytes2, bytes4}
 use Rattle.pieces.specs.Pieces.{placed, Laid}
 use Rattle.pieces.proofs.Laws.{laid_more, laid_front}
 use Rattle.pieces.proofs.Tests.{Tells, both, at_most, neither, either_way}
-use Rattle.bundle.specs.declared.Unwritten.TheVariants.{WrongCount, EmptyImage, NoRoom, WrongLengths}
+use Rattle.bundle.specs.declared.reasons.Unwritten.TheVariants.{WrongCount, EmptyImage, NoRoom, WrongLengths}
 use Rattle.std.specs.Prelude.{Ok, Err, sum}
 use Rattle.std.proofs.lemmas.List.Sums.{sum_by-cons}
 use Rattle.bundle.specs.Bundle.{most_images, can_count, head_size, has_empty, fits_in, total, size_of, entries_of, bundle_of, Writable, left, write_of}

@@ -8,8 +8,8 @@ use lib.Dec.{eqb}
 use lib.ListN.{length, get_or, take, drop}
 use borrow.Author.Tests.{eqb-true, eqb-false, eq-eqb, ne_eqb, le-leb, lt-leb, not-true}
 use Rattle.pieces.proofs.Tests.{Tells, alike, either_way}
-use Rattle.bundle.specs.declared.Unwritten.{Unwritten}
-use Rattle.bundle.specs.declared.Unwritten.TheVariants.{WrongCount, EmptyImage, NoRoom, WrongLengths}
+use Rattle.bundle.specs.declared.reasons.Unwritten.{Unwritten}
+use Rattle.bundle.specs.declared.reasons.Unwritten.TheVariants.{WrongCount, EmptyImage, NoRoom, WrongLengths}
 use Rattle.std.specs.Prelude.{Ok, Err}
 use Rattle.bundle.specs.Bundle.{can_count, head_size, bundle_of, has_empty, fits_in, total, size_of, Left, left, write_of}
 use Rattle.bundle.specs.Claims.{Counted, Full, Fits}

@@ -1,6 +1,6 @@
 -- A bundle of images; what reading any bytes comes to, and what writing leaves.
 use Rattle.std.specs.Prelude.{ℕ, zero, suc, ◌+◌, ◌*◌, ◌^◌, Bool, true, false, cond, not, ◌&&◌, ◌||◌, List, [], ◌∷◌, ◌++◌, ◌≡◌, eqb, ltb, leb, length, take, drop}
-use Rattle.std.specs.Prelude.{Result, Ok, Err}
+use Rattle.std.specs.Prelude.{Result, Ok, Err, codes}
 use Rattle.std.specs.List.{list_any}
 use Rattle.std.specs.Result.{result_unwrap_or}
 use Rattle.numbers.specs.Numbers.{word_at, long_at, bytes2, bytes4}
@@ -8,8 +8,8 @@ use Rattle.bundle.specs.declared.Entry.{Entry}
 use Rattle.bundle.specs.declared.Part.{Part}
 use Rattle.bundle.specs.declared.Refusal.{Refusal}
 use Rattle.bundle.specs.declared.Refusal.TheVariants.{Short, Count, Table, Offset, Empty, Past, LeftOver}
-use Rattle.bundle.specs.declared.Unwritten.{Unwritten}
-use Rattle.bundle.specs.declared.Unwritten.TheVariants.{WrongCount, EmptyImage, NoRoom, WrongLengths}
+use Rattle.bundle.specs.declared.reasons.Unwritten.{Unwritten}
+use Rattle.bundle.specs.declared.reasons.Unwritten.TheVariants.{WrongCount, EmptyImage, NoRoom, WrongLengths}
 
 -- the most images of a bundle, and whether it may have n
 abbrev pub most_images : ℕ
@@ -77,6 +77,21 @@ refusal_number Empty = 5
 refusal_number Past = 6
 refusal_number LeftOver = 7
 
+-- a reading by number: 0 for what is accepted
+abbrev pub reading_number : Reading → ℕ
+reading_number (Ok n) = 0
+reading_number (Err r) = refusal_number r
+
+-- the refusals in words
+abbrev pub refusal_words : Refusal → List ℕ
+refusal_words Short = codes "too short for a count"
+refusal_words Count = codes "not 1 to 32 images"
+refusal_words Table = codes "too short for the entries"
+refusal_words Offset = codes "an image is not where the one before it ended"
+refusal_words Empty = codes "an image has no bytes"
+refusal_words Past = codes "an image ends past the file"
+refusal_words LeftOver = codes "bytes are left over behind the last image"
+
 -- the images of a bundle; none in what is refused
 abbrev pub images_in : Reading → ℕ
 images_in r = result_unwrap_or r 0
@@ -141,3 +156,19 @@ unwritten_number WrongCount = 1
 unwritten_number EmptyImage = 2
 unwritten_number NoRoom = 3
 unwritten_number WrongLengths = 4
+
+-- a writing by number: 0 for what was written
+abbrev pub writing_number : Writing → ℕ
+writing_number (Ok n) = 0
+writing_number (Err u) = unwritten_number u
+
+-- what stood in the way, in words
+abbrev pub unwritten_words : Unwritten → List ℕ
+unwritten_words WrongCount = codes "not 1 to 32 images"
+unwritten_words EmptyImage = codes "an image has no bytes"
+unwritten_words NoRoom = codes "too little room, or a number past 32 bits"
+unwritten_words WrongLengths = codes "the lengths are not those of the bytes"
+
+-- how many bytes it wrote
+abbrev pub bytes_written : Writing → ℕ
+bytes_written w = result_unwrap_or w 0

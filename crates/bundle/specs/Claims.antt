@@ -4,7 +4,7 @@ use Rattle.numbers.specs.Numbers.{word_at, long_at}
 use Rattle.pieces.specs.Claims.{Bytes, Exactly}
 use Rattle.bundle.specs.declared.Part.{Part}
 use Rattle.bundle.specs.declared.Refusal.TheVariants.{Short, Count, Table, Offset, Empty, Past, LeftOver}
-use Rattle.bundle.specs.declared.Unwritten.TheVariants.{WrongCount, EmptyImage, NoRoom, WrongLengths}
+use Rattle.bundle.specs.declared.reasons.Unwritten.TheVariants.{WrongCount, EmptyImage, NoRoom, WrongLengths}
 use Rattle.bundle.specs.Bundle.{bundle_of, total, Reading, read_of, part_of, image_of, Left, left, write_of}
 
 -- ---- lists of images

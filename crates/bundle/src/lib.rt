@@ -2,12 +2,16 @@
 // any bytes, and written into a lent buffer.
 #![tactic(auto)]
 
-ghost use Rattle.std.specs.Prelude.{◌+◌, ◌^◌, ◌≤◌, ◌<◌, true, ◌≡◌, ◌++◌, length, sum};
+ghost use Rattle.std.specs.Prelude.{◌+◌, ◌^◌, ◌≤◌, ◌<◌, true, ◌≡◌, ◌++◌, length, sum, Some};
 ghost use Rattle.numbers.specs.Numbers.{bytes4};
 ghost use Rattle.pieces.specs.Pieces.{Laid};
 ghost use Rattle.bundle.specs.Bundle.{head_size, can_count, entry_at, end_of, judged, read_from, read_of, refusal_number, part_of, image_of};
-ghost use Rattle.bundle.specs.Bundle.{fits_in, entries_of, bundle_of, Writable, left, write_of, unwritten_number};
+ghost use Rattle.bundle.specs.Bundle.{fits_in, entries_of, bundle_of, Writable, left, write_of};
+ghost use Rattle.bundle.specs.Bundle.{refusal_words, reading_number, images_in, writing_number, bytes_written};
 
+mod reasons;
+
+pub use reasons::Unwritten;
 use std::error::Error;
 use std::fmt;
 
@@ -36,6 +40,8 @@ pub enum Refusal {
 }
 
 impl fmt::Display for Refusal {
+    ghost output = { λ refusal. Some (refusal_words refusal) };
+
     fn fmt<W: fmt::Write>(&self, f: &mut fmt::Formatter<W>) -> fmt::Result {
         f.write_str(match self {
             Refusal::Short => "too short for a count",
@@ -64,43 +70,6 @@ impl From<Refusal> for u32 {
             Refusal::Empty => 5,
             Refusal::Past => 6,
             Refusal::LeftOver => 7,
-        }
-    }
-}
-
-// Why images were not written.
-#[derive(Clone, Copy, Debug, PartialEq, Eq)]
-pub enum Unwritten {
-    // 0 images, or over 32; a length of 0; too little room, or too few bits; lengths that are not those of the bytes.
-    WrongCount,
-    EmptyImage,
-    NoRoom,
-    WrongLengths,
-}
-
-impl fmt::Display for Unwritten {
-    fn fmt<W: fmt::Write>(&self, f: &mut fmt::Formatter<W>) -> fmt::Result {
-        f.write_str(match self {
-            Unwritten::WrongCount => "not 1 to 32 images",
-            Unwritten::EmptyImage => "an image has no bytes",
-            Unwritten::NoRoom => "too little room, or a number past 32 bits",
-            Unwritten::WrongLengths => "the lengths are not those of the bytes",
-        })
-    }
-}
-
-impl Error for Unwritten {}
-
-// The number that C hears.
-impl From<Unwritten> for u32 {
-    ghost from_gives = { λ unwritten number. number ≡ unwritten_number unwritten };
-
-    fn from(unwritten: Unwritten) -> u32 {
-        match unwritten {
-            Unwritten::WrongCount => 1,
-            Unwritten::EmptyImage => 2,
-            Unwritten::NoRoom => 3,
-            Unwritten::WrongLengths => 4,
         }
     }
 }
@@ -217,6 +186,20 @@ pub fn read(file: &[u8]) -> Result<usize, Refusal>
     read_entries(file, count)
 }
 
+// The number of a refusal, and 0 for what is accepted.
+pub fn number(reading: Result<usize, Refusal>) -> u32
+    ensures { result ≡ reading_number reading }
+{
+    reading.err().map_or(0, u32::from)
+}
+
+// How many images were found: none in what is refused.
+pub fn images(reading: Result<usize, Refusal>) -> usize
+    ensures { result ≡ images_in reading }
+{
+    reading.unwrap_or(0)
+}
+
 // Where an image lies, counted from 0; no bytes where there is no such image.
 #[tactic(auto, using(crate::proofs::Meaning::image_inside), unfolding(crate::specs::Bundle::part_of))]
 pub fn part_of(file: &[u8], k: usize) -> Part
@@ -314,4 +297,18 @@ pub fn write(lengths: &[u64], images: &[u8], buffer: &mut [u8]) -> Result<usize,
         return Err(Unwritten::WrongLengths);
     }
     Ok(lay(lengths, images, buffer))
+}
+
+// The number of what stood in the way, and 0 for what was written.
+pub fn unwritten(writing: Result<usize, Unwritten>) -> u32
+    ensures { result ≡ writing_number writing }
+{
+    writing.err().map_or(0, u32::from)
+}
+
+// How many bytes were written: none where something stood in the way.
+pub fn written(writing: Result<usize, Unwritten>) -> usize
+    ensures { result ≡ bytes_written writing }
+{
+    writing.unwrap_or(0)
 }

@@ -2,14 +2,15 @@
 use Prim.Native.Nat.{ℕ, zero, suc}
 use mathlib.Core.List.{List}
 use mathlib.Core.Path.{◌≡◌, refl, sym, ap, ◌∙◌}
-use Rattle.std.specs.Prelude.{Ok, Err}
+use native.Mathlib.Omega.{arith}
+use Rattle.std.specs.Prelude.{Result, Ok, Err}
 use Rattle.suffix.specs.declared.Parts.{Parts}
 use Rattle.suffix.specs.declared.Refusal.{Refusal}
 use Rattle.suffix.specs.declared.Refusal.TheVariants.{Short, Signature, Length, Version, Sum}
 use Rattle.suffix.specs.Suffix.{Reading, accepted, Writing, unwritten, Left, left, write_of}
 use Rattle.files.specs.declared.SuffixFound.{SuffixFound}
 use Rattle.files.specs.declared.Counted.{Counted}
-use Rattle.files.specs.Files.{refused_by, told_read, counted, told_written, at_host, suffix_written}
+use Rattle.files.specs.Files.{refused_by, told_read, Counts, counted, OneCounted, told_written, at_host, suffix_written}
 
 -- every refusal is heard by its number
 pub heard : (r : Refusal) → refused_by r ≡ told_read (Err r)
@@ -58,3 +59,23 @@ written_back (Err w) = refl
 
 pub written_tells : (w v : Writing) → told_written w ≡ told_written v → w ≡ v
 written_tells w v e = sym (written_back w) ∙ ap (λ (t : Counted). written_by t.refused t.count) e ∙ written_back v
+
+-- what is told of a count or a refusal is told by its two numbers
+counts_once :
+    {E : Type 0} (converts : E → ℕ → Type 0) → ((e : E) (n m : ℕ) → converts e n → converts e m → n ≡ m)
+    → (found : Result ℕ E) (t u : Counted) → Counts converts found t → Counts converts found u → t ≡ u
+counts_once converts one (Ok n) t u h k = h ∙ sym k
+counts_once converts one (Err e) t u h k =
+    let same : t.refused ≡ u.refused = one e t.refused u.refused h.0 k.0 in
+    let none : t.count ≡ u.count = omega (arith, h.1, k.1) in
+    ap (λ (m : ℕ). record t { refused = m }) same ∙ ap (λ (m : ℕ). record u { count = m }) none
+
+counts_equal :
+    {E : Type 0} (number : E → ℕ) (found : Result ℕ E) (t : Counted)
+    → Counts (λ e n. n ≡ number e) found t → t ≡ counted number found
+unfolding counted
+counts_equal number (Ok n) t h = h
+counts_equal number (Err e) t h = counts_once (λ e n. n ≡ number e) (λ e n m p q. p ∙ sym q) (Err e) t _ h (refl, refl)
+
+pub one_counted : OneCounted
+one_counted = record { once = counts_once; equation = counts_equal }

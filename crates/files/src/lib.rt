@@ -2,11 +2,11 @@
 // Refusals are numbers here, since no enum can be handed over to C. `include/mullirim_files.h` declares these calls.
 #![tactic(auto)]
 
-ghost use Rattle.std.specs.Prelude.{◌+◌, ◌≤◌, ◌≡◌, length, MatchResult};
+ghost use Rattle.std.specs.Prelude.{◌+◌, ◌≤◌, ◌≡◌, length};
 ghost use Rattle.suffix.specs.Suffix.{read_of};
 ghost use Rattle.bundle.specs.Bundle.{part_of};
 ghost use Rattle.bundle.specs.Bundle as Bundle;
-ghost use Rattle.files.specs.Files.{told_read, told_bundle, at_host, suffix_written, bundle_written};
+ghost use Rattle.files.specs.Files.{told_read, Counts, told_bundle, at_host, suffix_written, bundle_written};
 
 use bundle::Part;
 use suffix::{Parts, Suffixed};
@@ -30,8 +30,7 @@ pub struct Counted {
 
 // What is counted, as the host has it, whatever it may be refused for.
 impl<E: Into<u32>> From<Result<usize, E>> for Counted {
-    ghost from_gives = { λ found told.
-        MatchResult found (λ n. told ≡ record { refused = 0; count = n }) (λ e. E.converts e told.refused × (told.count ≡ 0)) };
+    ghost from_gives = { Counts E.converts };
 
     fn from(found: Result<usize, E>) -> Counted {
         match found {

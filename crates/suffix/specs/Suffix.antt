@@ -1,6 +1,6 @@
 -- A file with its suffix; what reading any bytes comes to, and what writing leaves.
 use Rattle.std.specs.Prelude.{ℕ, ◌+◌, ◌-◌, Bool, cond, not, ◌&&◌, List, [], ◌∷◌, ◌++◌, eqb, ltb, length, get_or, take, drop}
-use Rattle.std.specs.Prelude.{Result, Ok, Err}
+use Rattle.std.specs.Prelude.{Result, Ok, Err, codes}
 use Rattle.numbers.specs.Numbers.{word_at, long_at, bytes2, bytes4}
 use Rattle.crc.specs.Crc.{crc_of}
 use Rattle.suffix.specs.declared.Parts.{Parts}
@@ -90,7 +90,20 @@ refusal_number Length = 3
 refusal_number Version = 4
 refusal_number Sum = 5
 
--- what a writing comes to: how many bytes were written, or that none were; and the number of that
+-- a reading by number: 0 for what is accepted
+abbrev pub reading_number : Reading → ℕ
+reading_number (Ok s) = 0
+reading_number (Err r) = refusal_number r
+
+-- the refusals in words
+abbrev pub refusal_words : Refusal → List ℕ
+refusal_words Short = codes "too short for a suffix"
+refusal_words Signature = codes "no suffix's signature"
+refusal_words Length = codes "another length of suffix"
+refusal_words Version = codes "another version of DFU"
+refusal_words Sum = codes "another sum"
+
+-- what a writing comes to: how many bytes were written, or that none were; and of that the number and the words
 abbrev pub Writing : Type 0
 Writing = Result ℕ NoRoom
 
@@ -99,6 +112,9 @@ unwritten = Err (record {})
 
 abbrev pub unwritten_number : NoRoom → ℕ
 unwritten_number n = 1
+
+abbrev pub unwritten_words : List ℕ
+unwritten_words = codes "no room for the file and its suffix"
 
 -- all that a writing leaves
 pub record Left : Type 0 where

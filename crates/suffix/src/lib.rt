@@ -2,9 +2,9 @@
 // bytes, and written behind a file into a lent buffer.
 #![tactic(auto)]
 
-ghost use Rattle.std.specs.Prelude.{◌≤◌, ◌≡◌, ◌++◌, length};
-ghost use Rattle.suffix.specs.Suffix.{parts_of, summed, read_of, refusal_number, front_of, sum_bytes, size_with, laid, left, write_of};
-ghost use Rattle.suffix.specs.Suffix.{unwritten_number};
+ghost use Rattle.std.specs.Prelude.{◌≤◌, ◌≡◌, ◌++◌, length, Some};
+ghost use Rattle.suffix.specs.Suffix.{parts_of, summed, read_of, refusal_number, reading_number, refusal_words};
+ghost use Rattle.suffix.specs.Suffix.{front_of, sum_bytes, size_with, laid, left, write_of, unwritten_number, unwritten_words};
 
 use std::error::Error;
 use std::fmt;
@@ -46,6 +46,8 @@ pub enum Refusal {
 }
 
 impl fmt::Display for Refusal {
+    ghost output = { λ refusal. Some (refusal_words refusal) };
+
     fn fmt<W: fmt::Write>(&self, f: &mut fmt::Formatter<W>) -> fmt::Result {
         f.write_str(match self {
             Refusal::Short => "too short for a suffix",
@@ -79,6 +81,8 @@ impl From<Refusal> for u16 {
 pub struct NoRoom;
 
 impl fmt::Display for NoRoom {
+    ghost output = { λ _. Some unwritten_words };
+
     fn fmt<W: fmt::Write>(&self, f: &mut fmt::Formatter<W>) -> fmt::Result {
         f.write_str("no room for the file and its suffix")
     }
@@ -134,6 +138,13 @@ pub fn read(file: &[u8]) -> Result<Suffixed, Refusal>
         parts: parts_of(suffix),
         length: image.len(),
     })
+}
+
+// The number of a refusal, and 0 for what is accepted.
+pub fn number(reading: Result<Suffixed, Refusal>) -> u16
+    ensures { result ≡ reading_number reading }
+{
+    reading.err().map_or(0, u16::from)
 }
 
 // The suffix but for its sum.
