@@ -1,12 +1,12 @@
 // Numbers as text, in ASCII.
 #![tactic(auto)]
 
-ghost use Rattle.std.specs.Prelude.{◌+◌, ◌≤◌, ◌<◌, ◌≡◌, length};
+ghost use Rattle.std.specs.Prelude.{◌+◌, ◌≤◌, ◌<◌, ◌≡◌, length, Some};
 ghost use Rattle.pieces.specs.Pieces.{Laid};
 ghost use Rattle.print.specs.Hex.{digit_of, hex_of};
 ghost use Rattle.print.specs.Decimal.{last_digit, decimal_of};
 
-use std::array;
+use std::{array, fmt, str};
 
 // The last hexadecimal digit of a number, in upper case.
 #[tactic(auto, unfolding(crate::specs::Hex::digit_of))]
@@ -22,6 +22,19 @@ pub fn hex8(x: u32) -> [u8; 8]
     ensures { result ≡ hex_of x }
 {
     array::from_fn(|i| digit(x >> (28 - 4 * i)))
+}
+
+// A number that is printed as these digits. Programs print sums so, and not by `{:08X}`: then what is proved of the digits is what they
+// write.
+#[derive(Clone, Copy, Debug, PartialEq, Eq)]
+pub struct Hex(pub u32);
+
+impl fmt::Display for Hex {
+    ghost output = { λ h. Some (hex_of h.0) };
+
+    fn fmt<W: fmt::Write>(&self, f: &mut fmt::Formatter<W>) -> fmt::Result {
+        f.write_str(str::from_utf8(&hex8(self.0)).unwrap())
+    }
 }
 
 fn put_last_digit(n: u64, text: &mut [u8], at: usize) -> usize

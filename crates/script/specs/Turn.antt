@@ -1,8 +1,10 @@
 -- What a call is worth: a line that tells all that it left.
-use Rattle.std.specs.Prelude.{ℕ, zero, suc, ◌+◌, List, [], ◌++◌, get_or, replicate}
+use Rattle.std.specs.Prelude.{ℕ, zero, suc, ◌+◌, List, [], ◌∷◌, ◌++◌, get_or, replicate}
 use Rattle.crc.specs.Crc.{crc_of}
 use Rattle.sums.specs.Sum.{most_blocks}
 use Rattle.numbers.specs.Numbers.{bytes4}
+use Rattle.print.specs.Decimal.{decimal_of}
+use Rattle.print.specs.Hex.{hex_of}
 use Rattle.session.specs.declared.Session.{Session}
 use Rattle.answers.specs.Answers.{Leaves}
 use Rattle.loader.specs.Step.{step_of}
@@ -31,6 +33,16 @@ line_of l =
       reply = crc_of l.reply;
       flash = crc_of l.flash;
     }
+
+-- between two of a line's eight numbers
+abbrev space : List ℕ
+space = 32 ∷ []
+
+-- the text of a line: the answer, the count, state and status as decimal numbers, then the four sums, of eight hexadecimal digits each
+unfoldable pub text_of : Line → List ℕ
+text_of l =
+    decimal_of l.answer ++ space ++ decimal_of l.count ++ space ++ decimal_of l.state ++ space ++ decimal_of l.status ++ space
+    ++ hex_of l.whole ++ space ++ hex_of l.sums ++ space ++ hex_of l.reply ++ space ++ hex_of l.flash
 
 -- the reply buffer before each call
 abbrev untouched : List ℕ

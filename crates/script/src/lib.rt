@@ -8,6 +8,7 @@ ghost use Rattle.script.specs.Turn.{turned, turn_of};
 use crate::line::Line;
 use crate::tape::Head;
 use flash::Block;
+use print::Hex;
 use session::Session;
 use std::io;
 use std::io::Read;
@@ -73,8 +74,8 @@ fn play_from(rt: &impl Print, head: Head, calls: &[u8], flash: &mut [u8]) -> io:
     tape::fill(flash, a);
     let begun = loader::start(flash, Block(a), Block(b), head.part0, head.part1);
     let answer = u32::from(begun.answer);
-    let whole = begun.session.sums.whole;
-    println!(rt; "start {answer} {whole:08X}")?;
+    let whole = Hex(begun.session.sums.whole);
+    println!(rt; "start {answer} {whole}")?;
     play_calls(rt, calls, flash, begun.session)
 }
 

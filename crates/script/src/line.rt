@@ -1,10 +1,11 @@
 // What is written of a call: its answer in numbers, and the sums of all that it left.
-ghost use Rattle.std.specs.Prelude.{◌≡◌};
+ghost use Rattle.std.specs.Prelude.{◌≡◌, Some};
 ghost use Rattle.crc.specs.Crc.{crc_of};
 ghost use Rattle.answers.specs.Answers.{leaves};
-ghost use Rattle.script.specs.Turn.{sum_bytes, line_of};
+ghost use Rattle.script.specs.Turn.{sum_bytes, line_of, text_of};
 
 use answers::Outcome;
+use print::Hex;
 use std::fmt;
 use sums::MOST;
 
@@ -23,20 +24,25 @@ pub struct Line {
 }
 
 impl fmt::Display for Line {
+    ghost output = { λ l. Some (text_of l) };
+
     fn fmt<W: fmt::Write>(&self, f: &mut fmt::Formatter<W>) -> fmt::Result {
         let Line {
             answer,
             count,
             state,
             status,
-            whole,
-            sums,
-            reply,
-            flash,
+            ..
         } = *self;
+        let (whole, sums, reply, flash) = (
+            Hex(self.whole),
+            Hex(self.sums),
+            Hex(self.reply),
+            Hex(self.flash),
+        );
         write!(
             f,
-            "{answer} {count} {state} {status} {whole:08X} {sums:08X} {reply:08X} {flash:08X}"
+            "{answer} {count} {state} {status} {whole} {sums} {reply} {flash}"
         )
     }
 }

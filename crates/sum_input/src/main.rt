@@ -1,6 +1,7 @@
 // The sum of standard input, up to 65,536 bytes, as eight hexadecimal digits; or that it is too long.
 #![tactic(auto)]
 
+use print::Hex;
 use std::io;
 
 const MOST: usize = 65_536;
@@ -13,6 +14,6 @@ fn main(rt: HostRuntime) -> io::Result<()> {
     if n > MOST {
         return println!(rt; "too long");
     }
-    let sum = crc::sum(&input[..n]);
-    println!(rt; "{sum:08X}")
+    let sum = Hex(crc::sum(&input[..n]));
+    println!(rt; "{sum}")
 }

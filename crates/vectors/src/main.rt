@@ -7,6 +7,7 @@
 // its message's sum, but was not read from its source.
 #![tactic(auto)]
 
+use print::Hex;
 use std::io;
 
 // Each vector's name and message.
@@ -52,9 +53,9 @@ const VECTORS: [(&str, &[u8]); 18] = [
 fn main(rt: HostRuntime) -> io::Result<()> {
     for (name, message) in VECTORS {
         let length = message.len();
-        let sum = crc::sum(message);
-        let published = !sum;
-        println!(rt; "{name} {length} {sum:08X} {published:08X}")?;
+        let sum = Hex(crc::sum(message));
+        let published = Hex(!sum.0);
+        println!(rt; "{name} {length} {sum} {published}")?;
     }
     Ok(())
 }
