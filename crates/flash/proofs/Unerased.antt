@@ -97,19 +97,25 @@ module _ (f : List ℕ) (from n : ℕ) (h : from + n ≤ length f) where
         high = omega arith;
       }
 
-  pub ahead_found :
-      (at : ℕ) → at < from + n → (get_or f at 0 ≡ 255 → ⊥) → Ahead f from n at → Some (record { 0 = at }) ≡ first_in from (range f from n)
-  unfolding first_in
-  ahead_found at lt ne a = sym (a.same ∙ ap (first_in at) (byte_at at a.low lt) ∙ rw (ne_eqb (get_or f at 0) 255 ne))
+  -- the address where the range starts may be written otherwise
+  module _ (start : ℕ) (e : from ≡ start) where
+    pub ahead_found :
+        (at : ℕ) → at < from + n → (get_or f at 0 ≡ 255 → ⊥) → Ahead f from n at
+        → Some (record { 0 = at }) ≡ first_in start (range f start n)
+    unfolding first_in
+    ahead_found at lt ne a =
+        sym (a.same ∙ ap (first_in at) (byte_at at a.low lt) ∙ rw (ne_eqb (get_or f at 0) 255 ne))
+        ∙ ap (λ (k : ℕ). first_in k (range f k n)) e
 
-  pub ahead_none : (at : ℕ) → from + n ≤ at → Ahead f from n at → None ≡ first_in from (range f from n)
-  unfolding first_in
-  ahead_none at le a =
-      let past : at - from ≡ length (range f from n) = omega (arith, length-range f from n h, a.low, a.high) in
-      sym
-      (a.same
-      ∙ ap (λ (k : ℕ). first_in at (drop k (range f from n))) past
-      ∙ ap (first_in at) (drop-length (range f from n)))
+    pub ahead_none : (at : ℕ) → from + n ≤ at → Ahead f from n at → None ≡ first_in start (range f start n)
+    unfolding first_in
+    ahead_none at le a =
+        let past : at - from ≡ length (range f from n) = omega (arith, length-range f from n h, a.low, a.high) in
+        sym
+        (a.same
+        ∙ ap (λ (k : ℕ). first_in at (drop k (range f from n))) past
+        ∙ ap (first_in at) (drop-length (range f from n)))
+        ∙ ap (λ (k : ℕ). first_in k (range f k n)) e
 
   -- past bytes that are all erased
   module _ (at stop next : ℕ) (le : stop ≤ from + n) (p : Passed f at stop next) (a : Ahead f from n at) where
@@ -144,7 +150,7 @@ module _ (f : List ℕ) (from n : ℕ) (h : from + n ≤ length f) where
   first_found at low lt ne erased =
       let each = at - from in
       sym
-      (ahead_found at lt ne
+      (ahead_found from refl at lt ne
       (ahead_each each (omega arith) (λ j h k. erased j h (omega arith)) each at (omega arith) (omega arith)))
 
 -- nothing found: all bytes are erased
